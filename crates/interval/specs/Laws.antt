@@ -164,8 +164,10 @@ module _ (a u b w : ℕ) where
     where
       to : Within a b w → Within a u w ⊎ Within u b w
       to h = ⊎-elim (λ e. inl (inl e)) (λ k. ⊎-elim (λ j. inl (inr j)) (λ j. inr j) (in-some-part hu k)) h
+
       from-left : Within a u w → Within a b w
       from-left h = ⊎-elim (λ e. inl e) (λ k. inr (in-left-part hu k)) h
+
       from-right : Within u b w → Within a b w
       from-right h = ⊎-elim (λ (e : w ≡ u). inr (rw e hu)) (λ k. inr (in-right-part hu k)) h
 
@@ -175,6 +177,7 @@ module _ (a u b w : ℕ) where
       behind : Dec (a ≡ b) → ¬ Between u b a
       behind (yes e) j = not-end u b (rw e at j)
       behind (no n) j = not-both-met u a b j (rotated a u b n hu)
+
       at-a : w ≡ a → ¬ Within u b w
       at-a e s = ⊎-elim (λ (d : w ≡ u). not-start a b (rw (sym d ∙ e) at hu)) (λ j. behind (ℕ-discrete a b) (rw e at j)) s
 
@@ -192,19 +195,22 @@ module _ (a b u : ℕ) where
   straight : T (ltb a b && (ltb a u && ltb u b)) ↔ ((a < u) × (u < b))
   straight = (
     λ t. let s = and-T (ltb a u) (ltb u b) .0 (and-T (ltb a b) (ltb a u && ltb u b) .0 t .1) in (ltb→lt a u (s .0), ltb→lt u b (s .1)),
-    λ h. and-T (ltb a b) (ltb a u && ltb u b) .1 (lt→ltb a b (omega arith), and-T (ltb a u) (ltb u b) .1 (lt→ltb a u (h .0), lt→ltb u b (h .1))))
+    λ h. and-T (ltb a b) (ltb a u && ltb u b) .1 (lt→ltb a b (omega arith), and-T (ltb a u) (ltb u b) .1 (lt→ltb a u (h .0), lt→ltb u b (h .1))),
+  )
 
   wrapped : T (ltb b a && (ltb a u || ltb u b)) ↔ ((b < a) × ((a < u) ⊎ (u < b)))
   wrapped = (
     λ t. let s = and-T (ltb b a) (ltb a u || ltb u b) .0 t in
-    (ltb→lt b a (s .0), ⊎-elim (λ r. inl (ltb→lt a u r)) (λ r. inr (ltb→lt u b r)) (or-T (ltb a u) (ltb u b) .0 (s .1))),
+        (ltb→lt b a (s .0), ⊎-elim (λ r. inl (ltb→lt a u r)) (λ r. inr (ltb→lt u b r)) (or-T (ltb a u) (ltb u b) .0 (s .1))),
     λ h. and-T (ltb b a) (ltb a u || ltb u b) .1
-    (lt→ltb b a (h .0), or-T (ltb a u) (ltb u b) .1 (⊎-elim (λ r. inl (lt→ltb a u r)) (λ r. inr (lt→ltb u b r)) (h .1))))
+        (lt→ltb b a (h .0), or-T (ltb a u) (ltb u b) .1 (⊎-elim (λ r. inl (lt→ltb a u r)) (λ r. inr (lt→ltb u b r)) (h .1))),
+  )
 
   whole : T (eqb a b && not (eqb u a)) ↔ ((a ≡ b) × (u ≢ a))
   whole = (
     λ t. let s = and-T (eqb a b) (not (eqb u a)) .0 t in (eqb→eq a b (s .0), λ e. T-not (eqb u a) (s .1) (rw e (eqb-refl a))),
-    λ h. and-T (eqb a b) (not (eqb u a)) .1 (rw (h .0) (eqb-refl b), not-T (eqb u a) (λ t. h .1 (eqb→eq u a t))))
+    λ h. and-T (eqb a b) (not (eqb u a)) .1 (rw (h .0) (eqb-refl b), not-T (eqb u a) (λ t. h .1 (eqb→eq u a t))),
+  )
 
   -- the clauses are the facts
   by-clause : ((a < u) × (u < b)) ⊎ (((b < a) × ((a < u) ⊎ (u < b))) ⊎ ((a ≡ b) × (u ≢ a))) → Between a b u
@@ -229,7 +235,8 @@ module _ (a b u : ℕ) where
 or-iff : (p q : Bool) {P Q : Type 0} → T p ↔ P → T q ↔ Q → T (p || q) ↔ (P ⊎ Q)
 or-iff p q f g = (
   λ t. ⊎-elim (λ x. inl (f .0 x)) (λ x. inr (g .0 x)) (or-T p q .0 t),
-  λ h. or-T p q .1 (⊎-elim (λ x. inl (f .1 x)) (λ x. inr (g .1 x)) h))
+  λ h. or-T p q .1 (⊎-elim (λ x. inl (f .1 x)) (λ x. inr (g .1 x)) h),
+)
 
 pub between-iff : (a b u : ℕ) → T (between a b u) ↔ Between a b u
 unfolding between

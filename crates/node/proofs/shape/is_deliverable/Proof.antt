@@ -1,0 +1,12 @@
+-- `node::shape::is_deliverable` meets its contract: each test is a clause of the definition. Assumes nothing.
+use borrow.Author.Needs.{needs}
+use Rattle.node.specs.Shape.{deliverable}
+use Rattle.node.proofs.shape.is_deliverable.Statement.{statement}
+use Rattle.node.proofs.shape.is_deliverable.Tie as tie
+
+returns : tie.Need-returns
+unfolding deliverable
+returns c = simp (c .before .is-node-number .ensures, c .kind-fits .ensures)
+
+pub is-deliverable-spec : {M : Type 1} → statement M
+is-deliverable-spec = tie.close (tie.spec (λ c κs. search needs) (λ c κs. search needs) returns)

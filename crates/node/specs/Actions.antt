@@ -1,0 +1,220 @@
+-- What one node does with an order or a message: "The actions (004 Fig. 1)" of paper 01, in its order, each with its refusals before
+-- it. Every definition fixes the whole node, every message and the outcome. Definitions only.
+use Prim.Native.Nat.{ℕ}
+use mathlib.Core.Bool.{Bool, true, false, not, _&&_, _||_, cond}
+use mathlib.Core.List.{List, [], _∷_}
+use lib.Dec.{eqb}
+use Rattle.refusal.specs.Code.{code}
+use Rattle.refusal.specs.Rules.{Coded, done, no, Rule, _when_, ruled}
+use Rattle.interval.specs.Interval.{between}
+use Rattle.node.specs.declared.Status.{Status}
+use Rattle.node.specs.declared.Status.the-variants.{Out, Ins, In, Del}
+use Rattle.node.specs.declared.Link.{Link}
+use Rattle.node.specs.declared.Link.the-variants.{Unlinked, To}
+use Rattle.node.specs.declared.Seq.{Seq}
+use Rattle.node.specs.declared.Seq.the-variants.{Unset, Is}
+use Rattle.node.specs.declared.Node.{Node}
+use Rattle.node.specs.declared.Kind.{Kind}
+use Rattle.node.specs.declared.Kind.the-variants.{SetR, SetRAck, SetRNak, SetL}
+use Rattle.node.specs.declared.Message.{Message}
+use Rattle.node.specs.declared.Peer.{Peer}
+use Rattle.node.specs.declared.Posts.{Posts}
+use Rattle.node.specs.declared.Posts.the-variants.{Nothing, One, Two}
+use Rattle.node.specs.declared.Outcome.{Outcome}
+use Rattle.node.specs.declared.Outcome.the-variants.{Created, Waiting, LeftAlone, Granted, Denied, Joined, Gone, JoinDenied, LeaveDenied, LeftSet, LeftOld, Dropped}
+use Rattle.node.specs.declared.Verdict.{Verdict}
+use Rattle.node.specs.declared.Verdict.the-variants.{Done, Refused}
+use Rattle.node.specs.declared.Step.{Step}
+use Rattle.node.specs.Sequence.{firstSeq, nextSeq, newer, hasNext, cappedNext}
+use Rattle.node.specs.Shape.{isOut, isIn, wellFormed, deliverable, peerFits}
+
+-- ---- what a step says
+-- the node left behind, the messages posted in their order, and the outcome or the number of a refusal
+pub record Effect : Type 0 where
+  pub node : Node
+  pub posts : List Message
+  pub said : Coded Outcome
+
+abbrev pub posted : Posts → List Message
+posted Nothing = []
+posted (One m) = m ∷ []
+posted (Two m n) = m ∷ n ∷ []
+
+abbrev pub coded : Verdict → Coded Outcome
+coded (Done o) = done o
+coded (Refused r) = no (code r)
+
+-- what the code's answer says
+abbrev pub effect : Step → Effect
+effect s = record { node = s .node; posts = posted (s .posts); said = coded (s .verdict) }
+
+-- a refusal "carries only its number; bench or floor come back equal, nothing is posted"
+abbrev pub refused : Node → ℕ → Effect
+refused u n = record { node = u; posts = []; said = no n }
+
+-- a node that stays, or moves on, with no message
+abbrev pub quiet : Node → Outcome → Effect
+quiet u o = record { node = u; posts = []; said = done o }
+
+-- a node that posts one message
+abbrev pub posting : Node → Message → Outcome → Effect
+posting u m o = record { node = u; posts = m ∷ []; said = done o }
+
+-- ---- messages, by their sender, their addressee and the kind's own fields
+abbrev pub setR : ℕ → ℕ → ℕ → ℕ → ℕ → Message
+setR sender to new expected number = record { sender = sender; to = to; kind = SetR new expected number }
+
+abbrev pub setRAck : ℕ → ℕ → ℕ → Message
+setRAck sender to number = record { sender = sender; to = to; kind = SetRAck number }
+
+abbrev pub setRNak : ℕ → ℕ → Message
+setRNak sender to = record { sender = sender; to = to; kind = SetRNak }
+
+abbrev pub setL : ℕ → ℕ → ℕ → ℕ → Message
+setL sender to left number = record { sender = sender; to = to; kind = SetL left number }
+
+-- ---- parts of a node
+-- "A bench that goes out retains its fields": so do all changes of status
+abbrev pub withStatus : Status → Node → Node
+withStatus s u = record { status = s; key = u .key; left = u .left; right = u .right; lseq = u .lseq; rseq = u .rseq }
+
+-- the node that a link names; a link is missing only where refusal 6 comes first
+abbrev pub target : Link → ℕ
+target Unlinked = 0
+target (To n) = n
+
+-- a right number; it is missing only where refusal 6 comes first
+abbrev pub number : Seq → ℕ
+number Unset = firstSeq
+number (Is n) = n
+
+abbrev pub linksTo : Link → ℕ → Bool
+linksTo Unlinked m = false
+linksTo (To n) m = eqb n m
+
+-- ---- "Create u: links to itself, both numbers 0, status in."
+-- "its create answers 23 unless out"
+abbrev pub createRules : ℕ → Node → List Rule
+createRules me u = (6 when not (wellFormed me u)) ∷ (23 when not (isOut (u .status))) ∷ []
+
+abbrev pub created : ℕ → Node → Node
+created me u = record { status = In; key = u .key; left = To me; right = To me; lseq = firstSeq; rseq = Is firstSeq }
+
+unfoldable pub createOf : ℕ → Node → Effect
+createOf me u = ruled (createRules me u) (refused u) (quiet (created me u) Created)
+
+-- ---- "Join u between p and q: left p, right q, status ins; SetR(u, q, left number of u) to p."
+-- 23 "join: bench not out", 24 "join: key not in (left, right)"
+abbrev pub joinRules : ℕ → Node → Peer → Peer → List Rule
+joinRules me u p q =
+    (6 when not (wellFormed me u && (peerFits p && peerFits q)))
+    ∷ (23 when not (isOut (u .status)))
+    ∷ (24 when not (between (p .key) (q .key) (u .key)))
+    ∷ []
+
+abbrev pub joining : Node → Peer → Peer → Node
+joining u p q = record { status = Ins; key = u .key; left = To (p .number); right = To (q .number); lseq = u .lseq; rseq = u .rseq }
+
+abbrev pub joinRequest : ℕ → Node → Peer → Peer → Message
+joinRequest me u p q = setR me (p .number) me (q .number) (u .lseq)
+
+unfoldable pub joinOf : ℕ → Node → Peer → Peer → Effect
+joinOf me u p q =
+    ruled (joinRules me u p q) (refused u)
+    (posting (joining u p q) (joinRequest me u p q) Waiting)
+
+-- ---- "Leave u: if u's right link is u, out with no message. Else del, and SetR(right, u, right number + 1) to its left link."
+abbrev pub alone : ℕ → Node → Bool
+alone me u = linksTo (u .right) me
+
+-- 26 "leave: bench not in", 27 "leave: right number 65,535 and not alone"
+abbrev pub leaveRules : ℕ → Node → List Rule
+leaveRules me u =
+    (6 when not (wellFormed me u))
+    ∷ (26 when not (isIn (u .status)))
+    ∷ (27 when not (alone me u) && not (hasNext (number (u .rseq))))
+    ∷ []
+
+abbrev pub leaveRequest : ℕ → Node → ℕ → Message
+leaveRequest me u next = setR me (target (u .left)) (target (u .right)) me next
+
+unfoldable pub leaveOf : ℕ → Node → Effect
+leaveOf me u =
+    ruled (leaveRules me u) (refused u)
+    (cond (alone me u)
+    (quiet (withStatus Out u) LeftAlone)
+    (posting (withStatus Del u) (leaveRequest me u (nextSeq (number (u .rseq)))) Waiting))
+
+-- ---- "SetR from v at p."
+-- "Granted when p is in, its right link equals expected, and, where new = v, its right number is below 65,535."
+unfoldable pub grants : Node → ℕ → ℕ → ℕ → Bool
+grants p v new expected = isIn (p .status) && (linksTo (p .right) expected && (not (eqb new v) || hasNext (number (p .rseq))))
+
+-- "If new = v (a join) post SetL(v, right number + 1) to the old right link; else post SetL(p, number) to new."
+abbrev pub notice : ℕ → Node → ℕ → ℕ → ℕ → Message
+notice me p v new number′ =
+    cond (eqb new v)
+    (setL me (target (p .right)) v (nextSeq (number (p .rseq))))
+    (setL me new me number′)
+
+-- "Then post SetRAck(right number + 1) to v, capped at 65,535"
+abbrev pub ack : ℕ → Node → ℕ → Message
+ack me p v = setRAck me v (cappedNext (number (p .rseq)))
+
+-- "Then right link := new, right number := number."
+abbrev pub relinked : Node → ℕ → ℕ → Node
+relinked p new number′ = record { status = p .status; key = p .key; left = p .left; right = To new; lseq = p .lseq; rseq = Is number′ }
+
+abbrev pub granting : Node → Message → Message → Effect
+granting p first second = record { node = p; posts = first ∷ second ∷ []; said = done Granted }
+
+-- "Not granted: post SetRNak to v."
+abbrev pub denied : ℕ → Node → ℕ → Effect
+denied me p v = posting p (setRNak me v) Denied
+
+abbrev pub onSetR : ℕ → Node → ℕ → ℕ → ℕ → ℕ → Effect
+onSetR me p v new expected number′ =
+    cond (grants p v new expected)
+    (granting (relinked p new number′) (notice me p v new number′) (ack me p v))
+    (denied me p v)
+
+-- ---- "SetRAck at ins: in, right number := its number. At del: out." "Answers at a bench that is in are dropped too."
+abbrev pub admitted : Node → ℕ → Node
+admitted u number′ = record { status = In; key = u .key; left = u .left; right = u .right; lseq = u .lseq; rseq = Is number′ }
+
+abbrev pub onSetRAck : Status → Node → ℕ → Effect
+onSetRAck Out u number′ = quiet u Dropped
+onSetRAck Ins u number′ = quiet (admitted u number′) Joined
+onSetRAck In u number′ = quiet u Dropped
+onSetRAck Del u number′ = quiet (withStatus Out u) Gone
+
+-- ---- "SetRNak at ins: out. At del: in."
+abbrev pub onSetRNak : Status → Node → Effect
+onSetRNak Out u = quiet u Dropped
+onSetRNak Ins u = quiet (withStatus Out u) JoinDenied
+onSetRNak In u = quiet u Dropped
+onSetRNak Del u = quiet (withStatus In u) LeaveDenied
+
+-- ---- "SetL: if its number is greater than the left number, take both; else nothing."
+abbrev pub leftSet : Node → ℕ → ℕ → Node
+leftSet u left number′ = record { status = u .status; key = u .key; left = To left; right = u .right; lseq = number′; rseq = u .rseq }
+
+abbrev pub onSetL : Node → ℕ → ℕ → Effect
+onSetL u left number′ = cond (newer number′ (u .lseq)) (quiet (leftSet u left number′) LeftSet) (quiet u LeftOld)
+
+-- ---- receiving a message
+abbrev pub onKind : ℕ → Node → ℕ → Kind → Effect
+onKind me u v (SetR new expected number′) = onSetR me u v new expected number′
+onKind me u v (SetRAck number′) = onSetRAck (u .status) u number′
+onKind me u v SetRNak = onSetRNak (u .status) u
+onKind me u v (SetL left number′) = onSetL u left number′
+
+-- "A bench that is out drops every message"
+abbrev pub actOf : ℕ → Node → ℕ → Kind → Effect
+actOf me u v kind = cond (isOut (u .status)) (quiet u Dropped) (onKind me u v kind)
+
+abbrev pub receiveRules : ℕ → Node → Message → List Rule
+receiveRules me u m = (6 when not (wellFormed me u && deliverable me m)) ∷ []
+
+unfoldable pub receiveOf : ℕ → Node → Message → Effect
+receiveOf me u m = ruled (receiveRules me u m) (refused u) (actOf me u (m .sender) (m .kind))

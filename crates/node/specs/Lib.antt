@@ -1,0 +1,5 @@
+pub mod Sequence
+pub mod SequenceLaws
+pub mod Shape
+pub mod Actions
+pub mod ActionLaws

@@ -1,0 +1,53 @@
+-- Laws of sequence numbers. Proofs cite these, and not the definitions' text. Assumes nothing.
+use mathlib.Core.Path.{_≡_, refl}
+use mathlib.Core.Logic.{_⊎_, inl, inr}
+use mathlib.Core.Bool.{Bool, true, false, not}
+use Prim.Native.Nat.{ℕ, _<_, _≤_}
+use native.Mathlib.Omega.{arith}
+use native.Mathlib.Decide.{decLt}
+use lib.Dec.{T, ltb, ltb→lt, lt→ltb}
+use Rattle.node.specs.Sequence.{firstSeq, lastSeq, nextSeq, newer, hasNext, cappedNext}
+
+-- n is newer than m
+abbrev pub Newer : ℕ → ℕ → Type 0
+Newer n m = T (newer n m)
+
+pub newer-irreflexive : (n : ℕ) → ¬ Newer n n
+unfolding newer
+newer-irreflexive n h = let k = ltb→lt n n h in omega arith
+
+pub newer-transitive : (n m k : ℕ) → Newer n m → Newer m k → Newer n k
+unfolding newer
+newer-transitive n m k h j = lt→ltb k n (omega (arith, ltb→lt m n h, ltb→lt k m j))
+
+pub newer-total : (n m : ℕ) → Newer n m ⊎ ((n ≡ m) ⊎ Newer m n)
+unfolding newer
+newer-total n m = go (decLt m n) (decLt n m)
+  where
+    go : Dec (m < n) → Dec (n < m) → T (ltb m n) ⊎ ((n ≡ m) ⊎ T (ltb n m))
+    go (yes h) d = inl (lt→ltb m n h)
+    go (no h) (yes k) = inr (inr (lt→ltb n m k))
+    go (no h) (no k) = inr (inl (omega arith))
+
+pub next-newer : (n : ℕ) → Newer (nextSeq n) n
+unfolding newer nextSeq
+next-newer n = lt→ltb n _ (omega arith)
+
+-- nothing lies between a number and the next
+pub next-least : (n m : ℕ) → Newer m n → ¬ Newer (nextSeq n) m
+unfolding newer nextSeq
+next-least n m h j = omega (arith, ltb→lt n m h, ltb→lt m _ j)
+
+-- the first number is newer than none
+pub first-oldest : (n : ℕ) → ¬ Newer firstSeq n
+unfolding newer firstSeq
+first-oldest n h = omega (arith, ltb→lt n 0 h)
+
+-- the cap is met at the last number alone
+pub capped-next : (n : ℕ) → hasNext n ≡ true → cappedNext n ≡ nextSeq n
+unfolding cappedNext
+capped-next n h = rw h
+
+pub capped-last : (n : ℕ) → hasNext n ≡ false → cappedNext n ≡ lastSeq
+unfolding cappedNext
+capped-last n h = rw h
