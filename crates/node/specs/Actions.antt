@@ -84,9 +84,9 @@ target Unlinked = 0
 target (To n) = n
 
 -- a right number; it is missing only where refusal 6 comes first
-abbrev pub number : Seq → ℕ
-number Unset = firstSeq
-number (Is n) = n
+abbrev pub seqOf : Seq → ℕ
+seqOf Unset = firstSeq
+seqOf (Is n) = n
 
 abbrev pub linksTo : Link → ℕ → Bool
 linksTo Unlinked m = false
@@ -132,7 +132,7 @@ abbrev pub leaveRules : ℕ → Node → List Rule
 leaveRules me u =
     (6 when not (wellFormed me u))
     ∷ (26 when not (isIn (u .status)))
-    ∷ (27 when not (alone me u) && not (hasNext (number (u .rseq))))
+    ∷ (27 when not (alone me u) && not (hasNext (seqOf (u .rseq))))
     ∷ []
 
 abbrev pub leaveRequest : ℕ → Node → ℕ → Message
@@ -143,27 +143,27 @@ leaveOf me u =
     ruled (leaveRules me u) (refused u)
     (cond (alone me u)
     (quiet (withStatus Out u) LeftAlone)
-    (posting (withStatus Del u) (leaveRequest me u (nextSeq (number (u .rseq)))) Waiting))
+    (posting (withStatus Del u) (leaveRequest me u (nextSeq (seqOf (u .rseq)))) Waiting))
 
 -- ---- "SetR from v at p."
 -- "Granted when p is in, its right link equals expected, and, where new = v, its right number is below 65,535."
 unfoldable pub grants : Node → ℕ → ℕ → ℕ → Bool
-grants p v new expected = isIn (p .status) && (linksTo (p .right) expected && (not (eqb new v) || hasNext (number (p .rseq))))
+grants p v new expected = isIn (p .status) && (linksTo (p .right) expected && (not (eqb new v) || hasNext (seqOf (p .rseq))))
 
 -- "If new = v (a join) post SetL(v, right number + 1) to the old right link; else post SetL(p, number) to new."
 abbrev pub notice : ℕ → Node → ℕ → ℕ → ℕ → Message
-notice me p v new number′ =
+notice me p v new number =
     cond (eqb new v)
-    (setL me (target (p .right)) v (nextSeq (number (p .rseq))))
-    (setL me new me number′)
+    (setL me (target (p .right)) v (nextSeq (seqOf (p .rseq))))
+    (setL me new me number)
 
 -- "Then post SetRAck(right number + 1) to v, capped at 65,535"
 abbrev pub ack : ℕ → Node → ℕ → Message
-ack me p v = setRAck me v (cappedNext (number (p .rseq)))
+ack me p v = setRAck me v (cappedNext (seqOf (p .rseq)))
 
 -- "Then right link := new, right number := number."
 abbrev pub relinked : Node → ℕ → ℕ → Node
-relinked p new number′ = record { status = p .status; key = p .key; left = p .left; right = To new; lseq = p .lseq; rseq = Is number′ }
+relinked p new number = record { status = p .status; key = p .key; left = p .left; right = To new; lseq = p .lseq; rseq = Is number }
 
 abbrev pub granting : Node → Message → Message → Effect
 granting p first second = record { node = p; posts = first ∷ second ∷ []; said = done Granted }
@@ -173,20 +173,20 @@ abbrev pub denied : ℕ → Node → ℕ → Effect
 denied me p v = posting p (setRNak me v) Denied
 
 abbrev pub onSetR : ℕ → Node → ℕ → ℕ → ℕ → ℕ → Effect
-onSetR me p v new expected number′ =
+onSetR me p v new expected number =
     cond (grants p v new expected)
-    (granting (relinked p new number′) (notice me p v new number′) (ack me p v))
+    (granting (relinked p new number) (notice me p v new number) (ack me p v))
     (denied me p v)
 
 -- ---- "SetRAck at ins: in, right number := its number. At del: out." "Answers at a bench that is in are dropped too."
 abbrev pub admitted : Node → ℕ → Node
-admitted u number′ = record { status = In; key = u .key; left = u .left; right = u .right; lseq = u .lseq; rseq = Is number′ }
+admitted u number = record { status = In; key = u .key; left = u .left; right = u .right; lseq = u .lseq; rseq = Is number }
 
 abbrev pub onSetRAck : Status → Node → ℕ → Effect
-onSetRAck Out u number′ = quiet u Dropped
-onSetRAck Ins u number′ = quiet (admitted u number′) Joined
-onSetRAck In u number′ = quiet u Dropped
-onSetRAck Del u number′ = quiet (withStatus Out u) Gone
+onSetRAck Out u number = quiet u Dropped
+onSetRAck Ins u number = quiet (admitted u number) Joined
+onSetRAck In u number = quiet u Dropped
+onSetRAck Del u number = quiet (withStatus Out u) Gone
 
 -- ---- "SetRNak at ins: out. At del: in."
 abbrev pub onSetRNak : Status → Node → Effect
@@ -197,17 +197,17 @@ onSetRNak Del u = quiet (withStatus In u) LeaveDenied
 
 -- ---- "SetL: if its number is greater than the left number, take both; else nothing."
 abbrev pub leftSet : Node → ℕ → ℕ → Node
-leftSet u left number′ = record { status = u .status; key = u .key; left = To left; right = u .right; lseq = number′; rseq = u .rseq }
+leftSet u left number = record { status = u .status; key = u .key; left = To left; right = u .right; lseq = number; rseq = u .rseq }
 
 abbrev pub onSetL : Node → ℕ → ℕ → Effect
-onSetL u left number′ = cond (newer number′ (u .lseq)) (quiet (leftSet u left number′) LeftSet) (quiet u LeftOld)
+onSetL u left number = cond (newer number (u .lseq)) (quiet (leftSet u left number) LeftSet) (quiet u LeftOld)
 
 -- ---- receiving a message
 abbrev pub onKind : ℕ → Node → ℕ → Kind → Effect
-onKind me u v (SetR new expected number′) = onSetR me u v new expected number′
-onKind me u v (SetRAck number′) = onSetRAck (u .status) u number′
+onKind me u v (SetR new expected number) = onSetR me u v new expected number
+onKind me u v (SetRAck number) = onSetRAck (u .status) u number
 onKind me u v SetRNak = onSetRNak (u .status) u
-onKind me u v (SetL left number′) = onSetL u left number′
+onKind me u v (SetL left number) = onSetL u left number
 
 -- "A bench that is out drops every message"
 abbrev pub actOf : ℕ → Node → ℕ → Kind → Effect

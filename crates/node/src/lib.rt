@@ -2,8 +2,15 @@
 // Each action takes the node by value, with the node's own number, and hands back the node, at most two messages and a verdict.
 use refusal::Refusal;
 
-mod actions;
+mod answers;
+mod create;
+mod join;
+mod leave;
+mod parts;
+mod receive;
 mod sequence;
+mod set_l;
+mod set_r;
 mod shape;
 
 pub enum Status {

@@ -97,7 +97,7 @@ impl Node {
     {
         Node {
             status: Status::Out,
-            key: key,
+            key,
             left: Link::Unlinked,
             right: Link::Unlinked,
             lseq: 0,

@@ -4,7 +4,7 @@ use mathlib.Core.Path.{_∙_, sym}
 use borrow.Author.Tests.{not-false}
 use Rattle.node.specs.declared.Outcome.the-variants.{Waiting}
 use Rattle.node.specs.Actions.{leaveOf, leaveRequest, posting}
-use Rattle.node.specs.SequenceLaws.{capped-next}
+use Rattle.node.proofs.SequenceLaws.{capped-next}
 use Rattle.node.proofs.Node.leave.Statement.{statement}
 use Rattle.node.proofs.Node.leave.Tie as tie
 

@@ -1,0 +1,71 @@
+-- The cases that paper 01 marks † under "Fitter's cases", in its order, one row each: what the definition gives, and what the paper
+-- says. `Claim` proves the whole table. Definitions only.
+use mathlib.Core.Path.{_≡_}
+use mathlib.Core.Bool.{Bool, true, false}
+use mathlib.Core.List.{List, [], _∷_}
+use Prim.Native.Nat.{ℕ, _+_}
+use Rattle.refusal.specs.Rules.{Coded, done, no}
+use Rattle.serial.specs.Serial.{packedOf, binaryOf}
+use Rattle.interval.specs.Interval.{between}
+use Rattle.node.specs.declared.Status.the-variants.{Out, In}
+use Rattle.node.specs.declared.Link.the-variants.{To}
+use Rattle.node.specs.declared.Seq.the-variants.{Is}
+use Rattle.node.specs.declared.Node.{Node}
+use Rattle.node.specs.declared.Outcome.the-variants.{LeftAlone, LeftSet, LeftOld, Dropped, Denied}
+use Rattle.node.specs.Shape.{declaredOf}
+use Rattle.node.specs.Actions.{setR, setRAck, setRNak, setL, quiet, posting, granting, leaveOf, receiveOf}
+
+-- a row: two things that are equal; or a row for every number
+pub data Case : Type 1 where
+  _is_ : {A : Type 0} → A → A → Case
+  every : (ℕ → Case) → Case
+
+infix 10 _is_
+abbrev pub Holds : Case → Type 0
+Holds (x is y) = x ≡ y
+Holds (every row) = (i : ℕ) → Holds (row i)
+
+abbrev pub AllHold : List Case → Type 0
+AllHold [] = Unit {0}
+AllHold (c ∷ cs) = Holds c × AllHold cs
+
+-- node 0 of the cases below: in, with the links, the left number and the right number given
+abbrev pub node0 : ℕ → ℕ → ℕ → ℕ → Node
+node0 left right lseq rseq = record { status = In; key = 1_000; left = To left; right = To right; lseq = lseq; rseq = Is rseq }
+
+-- the same, gone out
+abbrev pub out0 : ℕ → ℕ → ℕ → ℕ → Node
+out0 left right lseq rseq = record { status = Out; key = 1_000; left = To left; right = To right; lseq = lseq; rseq = Is rseq }
+
+abbrev pub table : List Case
+table =
+    -- BC 00 00 12 34 is 1,234. BN 34 12 00 00 is 4,660.
+    (packedOf (0x00 ∷ 0x00 ∷ 0x12 ∷ 0x34 ∷ []) is done 1_234)
+    ∷ (binaryOf (0x34 ∷ 0x12 ∷ 0x00 ∷ 0x00 ∷ []) is done 4_660)
+    -- BC 99 99 99 99 is 99,999,999; BC 00 00 00 0A is refused 3.
+    ∷ (packedOf (0x99 ∷ 0x99 ∷ 0x99 ∷ 0x99 ∷ []) is done 99_999_999)
+    ∷ (packedOf (0x00 ∷ 0x00 ∷ 0x00 ∷ 0x0a ∷ []) is no 3)
+    -- BN FF E0 F5 05 is 99,999,999; BN 00 E1 F5 05 is refused 4.
+    ∷ (binaryOf (0xff ∷ 0xe0 ∷ 0xf5 ∷ 0x05 ∷ []) is done 99_999_999)
+    ∷ (binaryOf (0x00 ∷ 0xe1 ∷ 0xf5 ∷ 0x05 ∷ []) is no 4)
+    -- 5 is in (9, 7), 8 is not; 8 is in (9, 9), 9 is not.
+    ∷ (between 9 7 5 is true)
+    ∷ (between 9 7 8 is false)
+    ∷ (between 9 9 8 is true)
+    ∷ (between 9 9 9 is false)
+    -- Left number 2: SetL 2 is old, SetL 3 is taken.
+    ∷ (receiveOf 0 (node0 1 2 2 0) (setL 3 0 3 2) is quiet (node0 1 2 2 0) LeftOld)
+    ∷ (receiveOf 0 (node0 1 2 2 0) (setL 3 0 3 3) is quiet (node0 3 2 3 0) LeftSet)
+    -- Left number i: SetL i+2 then i+1 leaves i+2 (004 Fig. 3).
+    ∷ every (λ i. receiveOf 0 (receiveOf 0 (node0 1 2 i 0) (setL 4 0 4 (i + 2)) .node) (setL 3 0 3 (i + 1)) is quiet (node0 4 2 (i + 2) 0) LeftOld)
+    -- Right number 65,534: a matching join is granted with SetL 65,535.
+    ∷ (receiveOf 0 (node0 1 2 0 65_534) (setR 3 0 3 2 7) is granting (node0 1 3 0 7) (setL 0 2 3 65_535) (setRAck 0 3 65_535))
+    -- At 65,535: denied; a matching leave is granted, SetRAck 65,535.
+    ∷ (receiveOf 0 (node0 1 2 0 65_535) (setR 3 0 3 2 7) is posting (node0 1 2 0 65_535) (setRNak 0 3) Denied)
+    ∷ (receiveOf 0 (node0 1 2 0 65_535) (setR 2 0 4 2 7) is granting (node0 1 4 0 7) (setL 0 4 0 7) (setRAck 0 2 65_535))
+    -- A lone bench leaves with no message.
+    ∷ (leaveOf 0 (node0 0 0 5 65_535) is quiet (out0 0 0 5 65_535) LeftAlone)
+    -- SetR at a bench that is out: dropped.
+    ∷ (receiveOf 0 (out0 1 2 0 0) (setR 3 0 3 2 7) is quiet (out0 1 2 0 0) Dropped)
+    ∷ (receiveOf 0 (declaredOf 1_000) (setR 3 0 3 2 7) is quiet (declaredOf 1_000) Dropped)
+    ∷ []

@@ -1,0 +1,12 @@
+-- `node::parts::next_of` meets its contract. Assumes nothing.
+use borrow.Author.Needs.{needs}
+use mathlib.Core.Path.{_∙_, ap}
+use Rattle.node.specs.Sequence.{cappedNext}
+use Rattle.node.proofs.parts.next_of.Statement.{statement}
+use Rattle.node.proofs.parts.next_of.Tie as tie
+
+returns : tie.Need-returns
+returns c = c .capped-next .ensures ∙ ap cappedNext (c .before .number-of .ensures)
+
+pub next-of-spec : {M : Type 1} → statement M
+next-of-spec = tie.close (tie.spec (λ c κs. search needs) (λ c κs. search needs) returns)

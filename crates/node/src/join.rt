@@ -1,0 +1,64 @@
+// Join: a node asks the node on its left to let it in.
+ghost use mathlib.Core.Path.{_≡_};
+ghost use Rattle.node.specs.Actions.{effect, joining, joinRequest, joinOf};
+use crate::Kind;
+use crate::Link;
+use crate::Message;
+use crate::Node;
+use crate::Outcome;
+use crate::Peer;
+use crate::Status;
+use crate::Step;
+use crate::parts;
+use crate::shape;
+use refusal::Refusal;
+
+fn joining_between(node: Node, left: Peer, right: Peer) -> Node
+    ensures { λ r. ⌜ r ≡ joining node left right ⌝ }
+{
+    let rseq = node.rseq;
+    Node {
+        status: Status::Ins,
+        key: node.key,
+        left: Link::To(left.number),
+        right: Link::To(right.number),
+        lseq: node.lseq,
+        rseq,
+    }
+}
+
+fn join_request(node: Node, me: u8, left: Peer, right: Peer) -> Message
+    ensures { λ r. ⌜ r ≡ joinRequest me node left right ⌝ }
+{
+    Message {
+        sender: me,
+        to: left.number,
+        kind: Kind::SetR {
+            new: me,
+            expected: right.number,
+            number: node.lseq,
+        },
+    }
+}
+
+impl Node {
+    pub fn join(self, me: u8, left: Peer, right: Peer) -> Step
+        ensures { λ r. ⌜ effect r ≡ joinOf me self left right ⌝ }
+    {
+        let status = self.status;
+        if !(shape::is_well_formed(self, me) & (shape::peer_fits(left) & shape::peer_fits(right))) {
+            return parts::refuse(self, Refusal::Malformed);
+        }
+        if !shape::is_out(status) {
+            return parts::refuse(self, Refusal::NotOut);
+        }
+        if !interval::is_between(left.key, right.key, self.key) {
+            return parts::refuse(self, Refusal::NotBetween);
+        }
+        parts::posts_one(
+            joining_between(self, left, right),
+            join_request(self, me, left, right),
+            Outcome::Waiting,
+        )
+    }
+}

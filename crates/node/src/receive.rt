@@ -1,0 +1,110 @@
+// Receiving a message: any one by its kind, and one of each kind.
+ghost use mathlib.Core.Path.{_≡_};
+ghost use Rattle.node.specs.Actions.{effect, setR, setRAck, setRNak, setL, actOf, receiveOf};
+use crate::Kind;
+use crate::Message;
+use crate::Node;
+use crate::Outcome;
+use crate::Step;
+use crate::answers;
+use crate::parts;
+use crate::set_l;
+use crate::set_r;
+use crate::shape;
+use refusal::Refusal;
+
+impl Node {
+    fn act(self, me: u8, sender: u8, kind: Kind) -> Step
+        ensures { λ r. ⌜ effect r ≡ actOf me self sender kind ⌝ }
+    {
+        let status = self.status;
+        if shape::is_out(status) {
+            return parts::silent(self, Outcome::Dropped);
+        }
+        match kind {
+            Kind::SetR {
+                new,
+                expected,
+                number,
+            } => set_r::on_set_r(self, me, sender, new, expected, number),
+            Kind::SetRAck { number } => answers::on_set_r_ack(self, number),
+            Kind::SetRNak => answers::on_set_r_nak(self),
+            Kind::SetL { left, number } => set_l::on_set_l(self, left, number),
+        }
+    }
+
+    // Any message, by its kind.
+    pub fn receive(self, me: u8, message: Message) -> Step
+        ensures { λ r. ⌜ effect r ≡ receiveOf me self message ⌝ }
+    {
+        let kind = message.kind;
+        if !(shape::is_well_formed(self, me) & shape::is_deliverable(message, me)) {
+            return parts::refuse(self, Refusal::Malformed);
+        }
+        self.act(me, message.sender, kind)
+    }
+
+    pub fn receive_set_r(
+        self,
+        me: u8,
+        sender: u8,
+        to: u8,
+        new: u8,
+        expected: u8,
+        number: u16,
+    ) -> Step
+        ensures { λ r. ⌜ effect r ≡ receiveOf me self (setR sender to new expected number) ⌝ }
+    {
+        self.receive(
+            me,
+            Message {
+                sender,
+                to,
+                kind: Kind::SetR {
+                    new,
+                    expected,
+                    number,
+                },
+            },
+        )
+    }
+
+    pub fn receive_set_r_ack(self, me: u8, sender: u8, to: u8, number: u16) -> Step
+        ensures { λ r. ⌜ effect r ≡ receiveOf me self (setRAck sender to number) ⌝ }
+    {
+        self.receive(
+            me,
+            Message {
+                sender,
+                to,
+                kind: Kind::SetRAck { number },
+            },
+        )
+    }
+
+    pub fn receive_set_r_nak(self, me: u8, sender: u8, to: u8) -> Step
+        ensures { λ r. ⌜ effect r ≡ receiveOf me self (setRNak sender to) ⌝ }
+    {
+        self.receive(
+            me,
+            Message {
+                sender,
+                to,
+                kind: Kind::SetRNak,
+            },
+        )
+    }
+
+    pub fn receive_set_l(self, me: u8, sender: u8, to: u8, left: u8, number: u16) -> Step
+        ensures { λ r. ⌜ effect r ≡ receiveOf me self (setL sender to left number) ⌝ }
+    {
+        self.receive(
+            me,
+            Message {
+                sender,
+                to,
+                kind: Kind::SetL { left, number },
+            },
+        )
+    }
+}
