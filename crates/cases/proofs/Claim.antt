@@ -6,7 +6,7 @@ use Prim.Native.Nat.{ℕ, _+_}
 use native.Mathlib.Omega.{arith}
 use borrow.Author.Tests.{lt-ltb, le-ltb}
 use Rattle.interval.specs.Interval.{between}
-use Rattle.node.specs.Sequence.{firstSeq, lastSeq, nextSeq, newer, hasNext, cappedNext}
+use Rattle.sequence.specs.Sequence.{firstSeq, lastSeq, nextSeq, newer, hasNext, cappedNext}
 use Rattle.node.specs.Shape.{wellFormed, deliverable}
 use Rattle.node.specs.declared.Outcome.the-variants.{LeftOld}
 use Rattle.node.specs.Actions.{setL, quiet, grants, leaveOf, receiveOf}

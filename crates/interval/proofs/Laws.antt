@@ -2,12 +2,13 @@
 -- `within-iff` tie the two together, and everything else is proved of the facts, by comparing keys. Assumes nothing.
 use mathlib.Core.Path.{_≡_, refl, sym, _∙_}
 use mathlib.Core.Logic.{_⊎_, inl, inr, ⊎-elim, _↔_, _≢_}
-use mathlib.Core.Bool.{Bool, true, false, not, _&&_, _||_}
+use mathlib.Core.Bool.{not, _&&_, _||_}
 use Prim.Native.Nat.{ℕ, _<_, _≤_}
 use native.Mathlib.Omega.{arith}
 use native.Mathlib.Decide.{decLt, ℕ-discrete}
 use native.Mathlib.Nat.{le-of-lt}
 use lib.Dec.{T, ltb, eqb, ltb→lt, lt→ltb, eqb→eq, eqb-refl, T-not, not-T}
+use Rattle.truth.proofs.Laws.{and-T, or-T, or-iff}
 use Rattle.interval.specs.Interval.{between, within}
 
 -- ---- the facts
@@ -182,14 +183,6 @@ module _ (a u b w : ℕ) where
       at-a e s = ⊎-elim (λ (d : w ≡ u). not-start a b (rw (sym d ∙ e) at hu)) (λ j. behind (ℕ-discrete a b) (rw e at j)) s
 
 -- ---- the tests say the facts
-and-T : (p q : Bool) → T (p && q) ↔ (T p × T q)
-and-T true q = (λ t. (tt, t), λ t. t .1)
-and-T false q = (λ t. absurd t, λ t. t .0)
-
-or-T : (p q : Bool) → T (p || q) ↔ (T p ⊎ T q)
-or-T true q = (λ t. inl tt, λ t. tt)
-or-T false q = (λ t. inr t, λ t. ⊎-elim (λ x. absurd x) (λ x. x) t)
-
 -- each of the paper's three clauses, as a test and as facts
 module _ (a b u : ℕ) where
   straight : T (ltb a b && (ltb a u && ltb u b)) ↔ ((a < u) × (u < b))
@@ -231,12 +224,6 @@ module _ (a b u : ℕ) where
       go (below i j) (less o) = absurd (omega arith)
       go (below i j) (same o) = inr (inr (o, omega arith))
       go (below i j) (more o) = inr (inl (o, inr j))
-
-or-iff : (p q : Bool) {P Q : Type 0} → T p ↔ P → T q ↔ Q → T (p || q) ↔ (P ⊎ Q)
-or-iff p q f g = (
-  λ t. ⊎-elim (λ x. inl (f .0 x)) (λ x. inr (g .0 x)) (or-T p q .0 t),
-  λ h. or-T p q .1 (⊎-elim (λ x. inl (f .1 x)) (λ x. inr (g .1 x)) h),
-)
 
 pub between-iff : (a b u : ℕ) → T (between a b u) ↔ Between a b u
 unfolding between

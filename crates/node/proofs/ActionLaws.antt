@@ -1,20 +1,13 @@
 -- Laws of the actions, for the proofs of those who build on a node's step. Assumes nothing.
-use mathlib.Core.Path.{_≡_, refl}
-use mathlib.Core.Bool.{Bool, true, false, not, _&&_, _||_}
+use mathlib.Core.Path.{_≡_}
+use mathlib.Core.Bool.{true}
 use Prim.Native.Nat.{ℕ}
-use native.Mathlib.Omega.{arith}
 use lib.Dec.{eqb}
+use Rattle.truth.proofs.Laws.{both}
 use Rattle.node.specs.declared.Node.{Node}
-use Rattle.node.specs.Sequence.{hasNext}
+use Rattle.sequence.specs.Sequence.{hasNext}
 use Rattle.node.specs.Shape.{isIn}
 use Rattle.node.specs.Actions.{linksTo, seqOf, grants}
-
-both : (a b : Bool) → (a && b) ≡ true → (a ≡ true) × (b ≡ true)
-both true b h = (refl, h)
-both false b h = absurd (clash h)
-  where
-    clash : false ≡ true → ⊥
-    clash e = let z : _≡_ {A = ℕ} 0 1 = cc in omega arith
 
 -- what a granted request shows of the node that grants it
 pub record Grant (p : Node) (v new expected : ℕ) : Type 0 where

@@ -1,2 +1,2 @@
-pub mod SequenceLaws
 pub mod ActionLaws
+pub mod EffectLaws

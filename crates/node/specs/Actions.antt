@@ -25,7 +25,7 @@ use Rattle.node.specs.declared.Outcome.the-variants.{Created, Waiting, L
 use Rattle.node.specs.declared.Verdict.{Verdict}
 use Rattle.node.specs.declared.Verdict.the-variants.{Done, Refused}
 use Rattle.node.specs.declared.Step.{Step}
-use Rattle.node.specs.Sequence.{firstSeq, nextSeq, newer, hasNext, cappedNext}
+use Rattle.sequence.specs.Sequence.{firstSeq, nextSeq, newer, hasNext, cappedNext}
 use Rattle.node.specs.Shape.{isOut, isIn, wellFormed, deliverable, peerFits}
 
 -- ---- what a step says

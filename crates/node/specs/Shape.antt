@@ -15,7 +15,7 @@ use Rattle.node.specs.declared.Kind.{Kind}
 use Rattle.node.specs.declared.Kind.the-variants.{SetR, SetRAck, SetRNak, SetL}
 use Rattle.node.specs.declared.Message.{Message}
 use Rattle.node.specs.declared.Peer.{Peer}
-use Rattle.node.specs.Sequence.{firstSeq}
+use Rattle.sequence.specs.Sequence.{firstSeq}
 
 -- "At first: out, no links, left number 0, no right number."
 abbrev pub declaredOf : ℕ → Node

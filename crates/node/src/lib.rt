@@ -8,7 +8,6 @@ mod join;
 mod leave;
 mod parts;
 mod receive;
-mod sequence;
 mod set_l;
 mod set_r;
 mod shape;

@@ -1,7 +1,7 @@
 // What a step answers, and the parts of a node that it reads and changes.
 ghost use mathlib.Core.Path.{_≡_};
 ghost use Rattle.refusal.specs.Code.{code};
-ghost use Rattle.node.specs.Sequence.{hasNext, cappedNext};
+ghost use Rattle.sequence.specs.Sequence.{hasNext, cappedNext};
 ghost use Rattle.node.specs.Actions.{effect, refused, quiet, posting, withStatus, target, seqOf, linksTo};
 use crate::Link;
 use crate::Message;
@@ -12,7 +12,6 @@ use crate::Seq;
 use crate::Status;
 use crate::Step;
 use crate::Verdict;
-use crate::sequence;
 use refusal::Refusal;
 
 pub fn refuse(node: Node, refusal: Refusal) -> Step
@@ -70,7 +69,7 @@ pub fn target_of(link: Link) -> u8
     }
 }
 
-fn number_of(seq: Seq) -> u16
+pub fn number_of(seq: Seq) -> u16
     ensures { λ r. ⌜ r ≡ seqOf seq ⌝ }
 {
     match seq {

@@ -55,56 +55,48 @@ impl Node {
     ) -> Step
         ensures { λ r. ⌜ effect r ≡ receiveOf me self (setR sender to new expected number) ⌝ }
     {
-        self.receive(
-            me,
-            Message {
-                sender,
-                to,
-                kind: Kind::SetR {
-                    new,
-                    expected,
-                    number,
-                },
+        let request = Message {
+            sender,
+            to,
+            kind: Kind::SetR {
+                new,
+                expected,
+                number,
             },
-        )
+        };
+        self.receive(me, request)
     }
 
     pub fn receive_set_r_ack(self, me: u8, sender: u8, to: u8, number: u16) -> Step
         ensures { λ r. ⌜ effect r ≡ receiveOf me self (setRAck sender to number) ⌝ }
     {
-        self.receive(
-            me,
-            Message {
-                sender,
-                to,
-                kind: Kind::SetRAck { number },
-            },
-        )
+        let ack = Message {
+            sender,
+            to,
+            kind: Kind::SetRAck { number },
+        };
+        self.receive(me, ack)
     }
 
     pub fn receive_set_r_nak(self, me: u8, sender: u8, to: u8) -> Step
         ensures { λ r. ⌜ effect r ≡ receiveOf me self (setRNak sender to) ⌝ }
     {
-        self.receive(
-            me,
-            Message {
-                sender,
-                to,
-                kind: Kind::SetRNak,
-            },
-        )
+        let nak = Message {
+            sender,
+            to,
+            kind: Kind::SetRNak,
+        };
+        self.receive(me, nak)
     }
 
     pub fn receive_set_l(self, me: u8, sender: u8, to: u8, left: u8, number: u16) -> Step
         ensures { λ r. ⌜ effect r ≡ receiveOf me self (setL sender to left number) ⌝ }
     {
-        self.receive(
-            me,
-            Message {
-                sender,
-                to,
-                kind: Kind::SetL { left, number },
-            },
-        )
+        let notice = Message {
+            sender,
+            to,
+            kind: Kind::SetL { left, number },
+        };
+        self.receive(me, notice)
     }
 }

@@ -6,7 +6,6 @@ use crate::Node;
 use crate::Outcome;
 use crate::Step;
 use crate::parts;
-use crate::sequence;
 
 fn set_left(node: Node, left: u8, number: u16) -> Node
     ensures { λ r. ⌜ r ≡ leftSet node left number ⌝ }

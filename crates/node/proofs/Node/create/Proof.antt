@@ -6,15 +6,38 @@ use Rattle.node.proofs.Node.create.Tie as tie
 
 returns : tie.Need-returns
 unfolding createOf
-returns c = simp (← c .before .before .is-well-formed .ensures, c .before .if1 .taken, c .refuse .ensures)
+returns c =
+    simp (
+      ← c .before .before .is-well-formed .ensures,
+      c .before .if1 .taken,
+      c .refuse .ensures,
+    )
 
 returns-2 : tie.Need-returns-2
 unfolding createOf
-returns-2 c = simp (← c .before .before .before .before .is-well-formed .ensures, c .before .before .before .if1 .left, ← c .before .before .is-out .ensures, c .before .if2 .taken, c .refuse2 .ensures)
+returns-2 c =
+    let shaped = c .before .before .before in
+    simp (
+      ← shaped .before .is-well-formed .ensures,
+      shaped .if1 .left,
+      ← c .before .before .is-out .ensures,
+      c .before .if2 .taken,
+      c .refuse2 .ensures,
+    )
 
 returns-3 : tie.Need-returns-3
 unfolding createOf
-returns-3 c = simp (← c .before .before .before .before .before .is-well-formed .ensures, c .before .before .before .before .if1 .left, ← c .before .before .before .is-out .ensures, c .before .before .if2 .left, c .before .created-as .ensures, c .silent .ensures)
+returns-3 c =
+    let out = c .before .before in
+    let shaped = out .before .before in
+    simp (
+      ← shaped .before .is-well-formed .ensures,
+      shaped .if1 .left,
+      ← out .before .is-out .ensures,
+      out .if2 .left,
+      c .before .created-as .ensures,
+      c .silent .ensures,
+    )
 
 pub create-spec : {M : Type 1} → statement M
 create-spec =

@@ -1,6 +1,6 @@
 -- `node::Node::declared` meets its contract. Assumes nothing.
 use mathlib.Core.Path.{refl}
-use Rattle.node.specs.Sequence.{firstSeq}
+use Rattle.sequence.specs.Sequence.{firstSeq}
 use Rattle.node.proofs.Node.declared.Statement.{statement}
 use Rattle.node.proofs.Node.declared.Tie as tie
 

@@ -6,11 +6,15 @@ use Rattle.node.proofs.Node.receive.Tie as tie
 
 returns : tie.Need-returns
 unfolding receiveOf
-returns c = simp (← c .before .before .before .is-well-formed .ensures, ← c .before .before .is-deliverable .ensures, c .before .if1 .taken, c .refuse .ensures)
+returns c =
+    let malformed = c .before in
+    simp (← malformed .before .before .is-well-formed .ensures, ← malformed .before .is-deliverable .ensures, malformed .if1 .taken, c .refuse .ensures)
 
 returns-2 : tie.Need-returns-2
 unfolding receiveOf
-returns-2 c = simp (← c .before .before .before .is-well-formed .ensures, ← c .before .before .is-deliverable .ensures, c .before .if1 .left, c .act .ensures)
+returns-2 c =
+    let shaped = c .before in
+    simp (← shaped .before .before .is-well-formed .ensures, ← shaped .before .is-deliverable .ensures, shaped .if1 .left, c .act .ensures)
 
 pub receive-spec : {M : Type 1} → statement M
 receive-spec =

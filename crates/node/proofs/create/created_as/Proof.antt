@@ -1,6 +1,6 @@
 -- `node::create::created_as` meets its contract. Assumes nothing.
 use mathlib.Core.Path.{refl}
-use Rattle.node.specs.Sequence.{firstSeq}
+use Rattle.sequence.specs.Sequence.{firstSeq}
 use Rattle.node.proofs.create.created_as.Statement.{statement}
 use Rattle.node.proofs.create.created_as.Tie as tie
 

@@ -1,7 +1,7 @@
 -- `node::parts::has_next` meets its contract. Assumes nothing.
 use borrow.Author.Needs.{needs}
 use mathlib.Core.Path.{_∙_, ap}
-use Rattle.node.specs.Sequence.{hasNext}
+use Rattle.sequence.specs.Sequence.{hasNext}
 use Rattle.node.proofs.parts.has_next.Statement.{statement}
 use Rattle.node.proofs.parts.has_next.Tie as tie
 

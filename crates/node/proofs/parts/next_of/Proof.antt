@@ -1,7 +1,7 @@
 -- `node::parts::next_of` meets its contract. Assumes nothing.
 use borrow.Author.Needs.{needs}
 use mathlib.Core.Path.{_∙_, ap}
-use Rattle.node.specs.Sequence.{cappedNext}
+use Rattle.sequence.specs.Sequence.{cappedNext}
 use Rattle.node.proofs.parts.next_of.Statement.{statement}
 use Rattle.node.proofs.parts.next_of.Tie as tie
 

@@ -1,6 +1,6 @@
 -- `node::parts::number_of` meets its contract: the match says whether there is a number. Assumes nothing.
 use borrow.Author.Needs.{needs}
-use Rattle.node.specs.Sequence.{firstSeq}
+use Rattle.sequence.specs.Sequence.{firstSeq}
 use Rattle.node.proofs.parts.number_of.Statement.{statement}
 use Rattle.node.proofs.parts.number_of.Tie as tie
 

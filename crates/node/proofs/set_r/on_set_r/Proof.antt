@@ -4,21 +4,23 @@ use borrow.Author.Needs.{needs}
 use mathlib.Core.Path.{_∙_, sym}
 use borrow.Author.Tests.{eq-eqb, ne-eqb, not-true, not-false}
 use Rattle.node.specs.Actions.{granting, setL, setRAck}
-use Rattle.node.proofs.SequenceLaws.{capped-next}
+use Rattle.sequence.proofs.Laws.{capped-next}
 use Rattle.node.proofs.ActionLaws.{granted}
 use Rattle.node.proofs.set_r.on_set_r.Statement.{statement}
 use Rattle.node.proofs.set_r.on_set_r.Tie as tie
 
 returns : tie.Need-returns
-returns c = simp (sym (c .before .before .grants-request .ensures) ∙ not-true _ (c .before .if1 .taken)) (c .posts-one .ensures)
+returns c =
+    simp (sym (c .before .before .grants-request .ensures) ∙ not-true _ (c .before .if1 .taken)) (c .posts-one .ensures)
 
 returns-2 : tie.Need-returns-2
 returns-2 c =
-    let b = c .before .before .before .before .before in
-    let u = b .before .before .args in
-    let g = sym (b .before .grants-request .ensures) ∙ not-false _ (b .if1 .left) in
-    let e = eq-eqb _ _ (c .before .before .before .if2 .taken) in
-    let next = c .before .before .before .before .next-of .ensures in
+    let join = c .before .before .before in
+    let next = join .before .next-of .ensures in
+    let grant = join .before .before in
+    let u = grant .before .before .args in
+    let g = sym (grant .before .grants-request .ensures) ∙ not-false _ (grant .if1 .left) in
+    let e = eq-eqb _ _ (join .if2 .taken) in
     let room = capped-next _ (granted _ _ _ _ g .room e) in
     simp (g, e)
     (c .grant .ensures
@@ -26,13 +28,15 @@ returns-2 c =
 
 returns-3 : tie.Need-returns-3
 returns-3 c =
-    let b = c .before .before .before .before in
-    let u = b .before .before .args in
-    let g = sym (b .before .grants-request .ensures) ∙ not-false _ (b .if1 .left) in
-    let e = ne-eqb _ _ (c .before .before .if2 .left) in
+    let leave = c .before .before in
+    let next = leave .before .next-of .ensures in
+    let grant = leave .before .before in
+    let u = grant .before .before .args in
+    let g = sym (grant .before .grants-request .ensures) ∙ not-false _ (grant .if1 .left) in
+    let e = ne-eqb _ _ (leave .if2 .left) in
     simp (g, e)
     (c .grant2 .ensures
-    ∙ (λ i. granting (c .before .relink2 .ensures i) (setL (u .me) (u .new) (u .me) (u .number)) (setRAck (u .me) (u .sender) (c .before .before .before .next-of .ensures i))))
+    ∙ (λ i. granting (c .before .relink2 .ensures i) (setL (u .me) (u .new) (u .me) (u .number)) (setRAck (u .me) (u .sender) (next i))))
 
 pub on-set-r-spec : {M : Type 1} → statement M
 on-set-r-spec =

@@ -1,6 +1,6 @@
-// Sequence numbers, compared and advanced here and nowhere else.
+// Sequence numbers (paper 01's left and right numbers): compared and advanced here and nowhere else.
 ghost use mathlib.Core.Path.{_≡_};
-ghost use Rattle.node.specs.Sequence.{newer, hasNext, cappedNext};
+ghost use Rattle.sequence.specs.Sequence.{newer, hasNext, cappedNext};
 
 pub fn is_newer(n: u16, than: u16) -> bool
     ensures { λ r. ⌜ r ≡ newer n than ⌝ }

@@ -1,9 +1,9 @@
--- `node::sequence::capped_next` meets its contract: the branch is the definition's. Assumes nothing.
+-- `sequence::capped_next` meets its contract: the branch is the definition's. Assumes nothing.
 use borrow.Author.Needs.{needs}
 use borrow.Author.Tests.{lt-ltb, le-ltb}
-use Rattle.node.specs.Sequence.{cappedNext, hasNext, nextSeq, lastSeq}
-use Rattle.node.proofs.sequence.capped_next.Statement.{statement}
-use Rattle.node.proofs.sequence.capped_next.Tie as tie
+use Rattle.sequence.specs.Sequence.{cappedNext, hasNext, nextSeq, lastSeq}
+use Rattle.sequence.proofs.capped_next.Statement.{statement}
+use Rattle.sequence.proofs.capped_next.Tie as tie
 
 returns : tie.Need-returns
 unfolding cappedNext hasNext nextSeq lastSeq

@@ -6,7 +6,7 @@ use Prim.Native.Nat.{ℕ, _<_, _≤_}
 use native.Mathlib.Omega.{arith}
 use native.Mathlib.Decide.{decLt}
 use lib.Dec.{T, ltb, ltb→lt, lt→ltb}
-use Rattle.node.specs.Sequence.{firstSeq, lastSeq, nextSeq, newer, hasNext, cappedNext}
+use Rattle.sequence.specs.Sequence.{firstSeq, lastSeq, nextSeq, newer, hasNext, cappedNext}
 
 -- n is newer than m
 abbrev pub Newer : ℕ → ℕ → Type 0

@@ -1,5 +1,5 @@
 -- Sequence numbers: paper 01's left and right numbers, "0 to 65,535". They are compared and advanced by these definitions alone;
--- what follows from them is in `SequenceLaws`. Definitions only.
+-- what follows from them is in `proofs/Laws.antt`. Definitions only.
 use Prim.Native.Nat.{ℕ, _+_}
 use mathlib.Core.Bool.{Bool, cond}
 use lib.Dec.{ltb}

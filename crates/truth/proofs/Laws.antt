@@ -1,0 +1,30 @@
+-- What it says that a test put together from others is true. A test comes as an equation, `b ≡ true`, or as a type, `T b`.
+-- Assumes nothing.
+use mathlib.Core.Path.{_≡_, refl}
+use mathlib.Core.Logic.{_⊎_, inl, inr, ⊎-elim, _↔_}
+use mathlib.Core.Bool.{Bool, true, false, _&&_, _||_}
+use Prim.Native.Nat.{ℕ}
+use native.Mathlib.Omega.{arith}
+use lib.Dec.{T}
+
+pub true-is-not-false : false ≡ true → ⊥
+true-is-not-false e = let z : _≡_ {A = ℕ} 0 1 = cc in omega arith
+
+pub both : (p q : Bool) → (p && q) ≡ true → (p ≡ true) × (q ≡ true)
+both true q h = (refl, h)
+both false q h = absurd (true-is-not-false h)
+
+pub and-T : (p q : Bool) → T (p && q) ↔ (T p × T q)
+and-T true q = (λ t. (tt, t), λ t. t .1)
+and-T false q = (λ t. absurd t, λ t. t .0)
+
+pub or-T : (p q : Bool) → T (p || q) ↔ (T p ⊎ T q)
+or-T true q = (λ t. inl tt, λ t. tt)
+or-T false q = (λ t. inr t, λ t. ⊎-elim (λ x. absurd x) (λ x. x) t)
+
+-- the same, where each part has a meaning of its own
+pub or-iff : (p q : Bool) {P Q : Type 0} → T p ↔ P → T q ↔ Q → T (p || q) ↔ (P ⊎ Q)
+or-iff p q f g = (
+  λ t. ⊎-elim (λ x. inl (f .0 x)) (λ x. inr (g .0 x)) (or-T p q .0 t),
+  λ h. or-T p q .1 (⊎-elim (λ x. inl (f .1 x)) (λ x. inr (g .1 x)) h),
+)
