@@ -138,12 +138,11 @@ leaveRules me u =
 abbrev pub leaveRequest : ℕ → Node → ℕ → Message
 leaveRequest me u next = setR me (target (u .left)) (target (u .right)) me next
 
+abbrev pub leaving : ℕ → Node → Effect
+leaving me u = cond (alone me u) (quiet (withStatus Out u) LeftAlone) (posting (withStatus Del u) (leaveRequest me u (nextSeq (seqOf (u .rseq)))) Waiting)
+
 unfoldable pub leaveOf : ℕ → Node → Effect
-leaveOf me u =
-    ruled (leaveRules me u) (refused u)
-    (cond (alone me u)
-    (quiet (withStatus Out u) LeftAlone)
-    (posting (withStatus Del u) (leaveRequest me u (nextSeq (seqOf (u .rseq)))) Waiting))
+leaveOf me u = ruled (leaveRules me u) (refused u) (leaving me u)
 
 -- ---- "SetR from v at p."
 -- "Granted when p is in, its right link equals expected, and, where new = v, its right number is below 65,535."

@@ -1,6 +1,7 @@
 // Create: the first node of a ring.
 ghost use mathlib.Core.Path.{_≡_};
-ghost use Rattle.node.specs.Actions.{effect, created, createOf};
+ghost use Rattle.refusal.specs.Rules.{first, checked};
+ghost use Rattle.node.specs.Actions.{effect, createRules, created, createOf};
 use crate::Link;
 use crate::Node;
 use crate::Outcome;
@@ -9,7 +10,19 @@ use crate::Status;
 use crate::Step;
 use crate::parts;
 use crate::shape;
+use refusal::Check;
 use refusal::Refusal;
+
+fn check(node: Node, me: u8) -> Check
+    ensures { λ r. ⌜ checked r ≡ first (createRules me node) ⌝ }
+{
+    let status = node.status;
+    refusal::rule(
+        !shape::is_well_formed(node, me),
+        Refusal::Malformed,
+        refusal::rule(!shape::is_out(status), Refusal::NotOut, Check::Clear),
+    )
+}
 
 fn created_as(node: Node, me: u8) -> Node
     ensures { λ r. ⌜ r ≡ created me node ⌝ }
@@ -28,13 +41,9 @@ impl Node {
     pub fn create(self, me: u8) -> Step
         ensures { λ r. ⌜ effect r ≡ createOf me self ⌝ }
     {
-        let status = self.status;
-        if !shape::is_well_formed(self, me) {
-            return parts::refuse(self, Refusal::Malformed);
+        match check(self, me) {
+            Check::Refuse(refusal) => parts::refuse(self, refusal),
+            Check::Clear => parts::silent(created_as(self, me), Outcome::Created),
         }
-        if !shape::is_out(status) {
-            return parts::refuse(self, Refusal::NotOut);
-        }
-        parts::silent(created_as(self, me), Outcome::Created)
     }
 }

@@ -1,6 +1,7 @@
 // Join: a node asks the node on its left to let it in.
 ghost use mathlib.Core.Path.{_≡_};
-ghost use Rattle.node.specs.Actions.{effect, joining, joinRequest, joinOf};
+ghost use Rattle.refusal.specs.Rules.{first, checked};
+ghost use Rattle.node.specs.Actions.{effect, joinRules, joining, joinRequest, joinOf};
 use crate::Kind;
 use crate::Link;
 use crate::Message;
@@ -11,7 +12,27 @@ use crate::Status;
 use crate::Step;
 use crate::parts;
 use crate::shape;
+use refusal::Check;
 use refusal::Refusal;
+
+fn check(node: Node, me: u8, left: Peer, right: Peer) -> Check
+    ensures { λ r. ⌜ checked r ≡ first (joinRules me node left right) ⌝ }
+{
+    let status = node.status;
+    refusal::rule(
+        !(shape::is_well_formed(node, me) & (shape::peer_fits(left) & shape::peer_fits(right))),
+        Refusal::Malformed,
+        refusal::rule(
+            !shape::is_out(status),
+            Refusal::NotOut,
+            refusal::rule(
+                !interval::is_between(left.key, right.key, node.key),
+                Refusal::NotBetween,
+                Check::Clear,
+            ),
+        ),
+    )
+}
 
 fn joining_between(node: Node, left: Peer, right: Peer) -> Node
     ensures { λ r. ⌜ r ≡ joining node left right ⌝ }
@@ -45,20 +66,16 @@ impl Node {
     pub fn join(self, me: u8, left: Peer, right: Peer) -> Step
         ensures { λ r. ⌜ effect r ≡ joinOf me self left right ⌝ }
     {
-        let status = self.status;
-        if !(shape::is_well_formed(self, me) & (shape::peer_fits(left) & shape::peer_fits(right))) {
-            return parts::refuse(self, Refusal::Malformed);
+        match check(self, me, left, right) {
+            Check::Refuse(refusal) => parts::refuse(self, refusal),
+            Check::Clear => {
+                let request = join_request(self, me, left, right);
+                parts::posts_one(
+                    joining_between(self, left, right),
+                    request,
+                    Outcome::Waiting,
+                )
+            }
         }
-        if !shape::is_out(status) {
-            return parts::refuse(self, Refusal::NotOut);
-        }
-        if !interval::is_between(left.key, right.key, self.key) {
-            return parts::refuse(self, Refusal::NotBetween);
-        }
-        parts::posts_one(
-            joining_between(self, left, right),
-            join_request(self, me, left, right),
-            Outcome::Waiting,
-        )
     }
 }

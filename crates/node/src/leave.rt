@@ -1,6 +1,7 @@
 // Leave: a node asks the node on its left to pass it over, or goes at once where it is alone.
 ghost use mathlib.Core.Path.{_≡_};
-ghost use Rattle.node.specs.Actions.{effect, leaveRequest, leaveOf};
+ghost use Rattle.refusal.specs.Rules.{first, checked};
+ghost use Rattle.node.specs.Actions.{effect, leaveRules, leaveRequest, leaveOf};
 use crate::Kind;
 use crate::Message;
 use crate::Node;
@@ -9,7 +10,29 @@ use crate::Status;
 use crate::Step;
 use crate::parts;
 use crate::shape;
+use refusal::Check;
 use refusal::Refusal;
+
+fn check(node: Node, me: u8) -> Check
+    ensures { λ r. ⌜ checked r ≡ first (leaveRules me node) ⌝ }
+{
+    let status = node.status;
+    let right = node.right;
+    let rseq = node.rseq;
+    refusal::rule(
+        !shape::is_well_formed(node, me),
+        Refusal::Malformed,
+        refusal::rule(
+            !shape::is_in(status),
+            Refusal::NotIn,
+            refusal::rule(
+                !parts::links_to(right, me) & !parts::has_next(rseq),
+                Refusal::SequenceSpent,
+                Check::Clear,
+            ),
+        ),
+    )
+}
 
 fn leave_request(node: Node, me: u8, next: u16) -> Message
     ensures { λ r. ⌜ r ≡ leaveRequest me node next ⌝ }
@@ -31,26 +54,22 @@ impl Node {
     pub fn leave(self, me: u8) -> Step
         ensures { λ r. ⌜ effect r ≡ leaveOf me self ⌝ }
     {
-        let status = self.status;
         let right = self.right;
         let rseq = self.rseq;
-        if !shape::is_well_formed(self, me) {
-            return parts::refuse(self, Refusal::Malformed);
+        match check(self, me) {
+            Check::Refuse(refusal) => parts::refuse(self, refusal),
+            Check::Clear => {
+                if parts::links_to(right, me) {
+                    parts::silent(parts::with_status(self, Status::Out), Outcome::LeftAlone)
+                } else {
+                    let request = leave_request(self, me, parts::next_of(rseq));
+                    parts::posts_one(
+                        parts::with_status(self, Status::Del),
+                        request,
+                        Outcome::Waiting,
+                    )
+                }
+            }
         }
-        if !shape::is_in(status) {
-            return parts::refuse(self, Refusal::NotIn);
-        }
-        if parts::links_to(right, me) {
-            return parts::silent(parts::with_status(self, Status::Out), Outcome::LeftAlone);
-        }
-        if !parts::has_next(rseq) {
-            return parts::refuse(self, Refusal::SequenceSpent);
-        }
-        let request = leave_request(self, me, parts::next_of(rseq));
-        parts::posts_one(
-            parts::with_status(self, Status::Del),
-            request,
-            Outcome::Waiting,
-        )
     }
 }

@@ -1,6 +1,7 @@
 // Receiving a message: any one by its kind, and one of each kind.
 ghost use mathlib.Core.Path.{_≡_};
-ghost use Rattle.node.specs.Actions.{effect, setR, setRAck, setRNak, setL, actOf, receiveOf};
+ghost use Rattle.refusal.specs.Rules.{first, checked};
+ghost use Rattle.node.specs.Actions.{effect, receiveRules, setR, setRAck, setRNak, setL, actOf, receiveOf};
 use crate::Kind;
 use crate::Message;
 use crate::Node;
@@ -11,7 +12,18 @@ use crate::parts;
 use crate::set_l;
 use crate::set_r;
 use crate::shape;
+use refusal::Check;
 use refusal::Refusal;
+
+fn check(node: Node, me: u8, message: Message) -> Check
+    ensures { λ r. ⌜ checked r ≡ first (receiveRules me node message) ⌝ }
+{
+    refusal::rule(
+        !(shape::is_well_formed(node, me) & shape::is_deliverable(message, me)),
+        Refusal::Malformed,
+        Check::Clear,
+    )
+}
 
 impl Node {
     fn act(self, me: u8, sender: u8, kind: Kind) -> Step
@@ -38,10 +50,10 @@ impl Node {
         ensures { λ r. ⌜ effect r ≡ receiveOf me self message ⌝ }
     {
         let kind = message.kind;
-        if !(shape::is_well_formed(self, me) & shape::is_deliverable(message, me)) {
-            return parts::refuse(self, Refusal::Malformed);
+        match check(self, me, message) {
+            Check::Refuse(refusal) => parts::refuse(self, refusal),
+            Check::Clear => self.act(me, message.sender, kind),
         }
-        self.act(me, message.sender, kind)
     }
 
     pub fn receive_set_r(

@@ -1,13 +1,19 @@
--- Each refusal has a number of its own, so a number names its refusal. Assumes nothing.
+-- Laws of refusals: each has a number of its own, so a number names its refusal; and a check that says what a call's rules say
+-- settles the call. Assumes nothing.
 use mathlib.Core.Path.{_≡_, refl, sym, ap, _∙_}
-use mathlib.Core.Bool.{cond}
-use mathlib.Core.List.{List, [], _∷_}
+use mathlib.Core.Bool.{Bool, true, false, cond}
+use mathlib.Core.List.{List, [], _∷_, List·Memᴰ, List·Memᴰ·head as here, List·Memᴰ·tail as there}
+use mathlib.Core.Option.{Option, none, some}
 use Prim.Native.Nat.{ℕ, _-_}
+use native.Mathlib.Omega.{arith}
 use lib.ListN.{getD}
 use lib.Dec.{ltb}
 use Rattle.refusal.specs.declared.Refusal.{Refusal}
 use Rattle.refusal.specs.declared.Refusal.the-variants.{UnknownMark, CutShort, BadDigit, SerialTooLarge, Undeclared, Malformed, ScriptTooLong, NetworkFull, KeyTaken, RingStands, NotOut, NotBetween, NoticeWaiting, NotIn, SequenceSpent, QueueFull, NoMessage, StartNotInserted, OwnerNotFound}
+use Rattle.refusal.specs.declared.Check.{Check}
+use Rattle.refusal.specs.declared.Check.the-variants.{Clear, Refuse}
 use Rattle.refusal.specs.Code.{code}
+use Rattle.refusal.specs.Rules.{Rule, _when_, first, checked, settled, ruled}
 
 -- the numbers from 1, and those from 20
 fromInput : List Refusal
@@ -43,3 +49,23 @@ named-code OwnerNotFound = refl
 
 pub code-injective : (r s : Refusal) → code r ≡ code s → r ≡ s
 code-injective r s e = sym (named-code r) ∙ ap named e ∙ named-code s
+
+-- ---- a check that says what the rules say settles the call
+module _ {B : Type 0} (rules : List Rule) {k : Check} (says : checked k ≡ first rules) (refused : ℕ → B) (accepted : B) where
+  pub on-refuse : {r : Refusal} → k ≡ Refuse r → refused (code r) ≡ ruled rules refused accepted
+  on-refuse e = ap (λ o. settled o refused accepted) (ap checked (sym e) ∙ says)
+
+  pub on-clear : k ≡ Clear → accepted ≡ ruled rules refused accepted
+  on-clear e = ap (λ o. settled o refused accepted) (ap checked (sym e) ∙ says)
+
+-- ---- where no rule refuses, no condition of theirs holds
+not-refusing : (n : ℕ) (refuses : Bool) (rest : Option ℕ) → cond refuses (some n) rest ≡ none → (refuses ≡ false) × (rest ≡ none)
+not-refusing n true rest e = let z : _≡_ {A = ℕ} 0 1 = cc in absurd (omega arith)
+not-refusing n false rest e = (refl, e)
+
+later : (r : Rule) (rules : List Rule) → first (r ∷ rules) ≡ none → first rules ≡ none
+later (n when refuses) rules e = not-refusing n refuses (first rules) e .1
+
+pub clear-of : {n : ℕ} {refuses : Bool} {rules : List Rule} → first rules ≡ none → List·Memᴰ (n when refuses) rules → refuses ≡ false
+clear-of {n} {refuses} e (here {xs = rules} p) = not-refusing n refuses (first rules) (rw (← p) at e) .0
+clear-of e (there {x = r} {xs = rules} i) = clear-of (later r rules e) i

@@ -1,6 +1,9 @@
-// The refusals of paper 01: a named case for each number, and the number of a case.
+// The refusals of paper 01: a named case for each number, the number of a case, and rules of refusal in their order.
 ghost use mathlib.Core.Path.{_≡_};
+ghost use mathlib.Core.Bool.{cond};
+ghost use mathlib.Core.Option.{some};
 ghost use Rattle.refusal.specs.Code.{code};
+ghost use Rattle.refusal.specs.Rules.{checked};
 
 // No case carries anything but its number.
 pub enum Refusal {
@@ -52,5 +55,22 @@ impl Refusal {
             Refusal::StartNotInserted => 30,
             Refusal::OwnerNotFound => 31,
         }
+    }
+}
+
+// What the rules of a call come to: nothing against it, or its first refusal.
+pub enum Check {
+    Clear,
+    Refuse(Refusal),
+}
+
+// One more rule, before those of `rest`.
+pub fn rule(refuses: bool, refusal: Refusal, rest: Check) -> Check
+    ensures { λ r. ⌜ checked r ≡ cond refuses (some (code refusal)) (checked rest) ⌝ }
+{
+    if refuses {
+        Check::Refuse(refusal)
+    } else {
+        rest
     }
 }

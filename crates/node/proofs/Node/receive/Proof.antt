@@ -1,28 +1,35 @@
--- `node::Node::receive` meets its contract: the branch is the rule of refusal 6. Assumes nothing.
+-- `node::Node::receive` meets its contract: the check says what the rules say, and either way the
+-- step is the definition's. Assumes nothing.
 use borrow.Author.Needs.{needs}
-use Rattle.node.specs.Actions.{receiveOf}
+use mathlib.Core.Path.{_∙_}
+use Rattle.refusal.proofs.Laws.{on-refuse, on-clear}
+use Rattle.node.specs.Actions.{receiveOf, receiveRules, refused}
 use Rattle.node.proofs.Node.receive.Statement.{statement}
 use Rattle.node.proofs.Node.receive.Tie as tie
 
 returns : tie.Need-returns
 unfolding receiveOf
 returns c =
-    let malformed = c .before in
-    simp (← malformed .before .before .is-well-formed .ensures, ← malformed .before .is-deliverable .ensures, malformed .if1 .taken, c .refuse .ensures)
+    let called = c .before .before .before .before in
+    let u = called .before .args in
+    c .refuse .ensures ∙ on-refuse (receiveRules (u .me) (u .self) (u .message)) (called .check .ensures) (refused (u .self)) _ (c .before .before .refusal .given .1)
 
 returns-2 : tie.Need-returns-2
 unfolding receiveOf
 returns-2 c =
-    let shaped = c .before in
-    simp (← shaped .before .before .is-well-formed .ensures, ← shaped .before .is-deliverable .ensures, shaped .if1 .left, c .act .ensures)
+    let clear = c .before in
+    let called = clear .before .before in
+    let u = called .before .args in
+    c .act .ensures ∙ on-clear (receiveRules (u .me) (u .self) (u .message)) (called .check .ensures) (refused (u .self)) _ (clear .enum-told .given .1)
 
 pub receive-spec : {M : Type 1} → statement M
 receive-spec =
     tie.close
     (tie.spec
     (λ c κs. search needs)
+    (λ c. search needs)
     (λ c κs. search needs)
+    (λ c. search needs)
     (λ c κs. search needs)
     returns
-    (λ c κs. search needs)
     returns-2)
