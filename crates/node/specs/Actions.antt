@@ -100,8 +100,11 @@ createRules me u = (6 when not (wellFormed me u)) ∷ (23 when not (isOut (u .st
 abbrev pub created : ℕ → Node → Node
 created me u = record { status = In; key = u .key; left = To me; right = To me; lseq = firstSeq; rseq = Is firstSeq }
 
+abbrev pub creating : ℕ → Node → Effect
+creating me u = quiet (created me u) Created
+
 unfoldable pub createOf : ℕ → Node → Effect
-createOf me u = ruled (createRules me u) (refused u) (quiet (created me u) Created)
+createOf me u = ruled (createRules me u) (refused u) (creating me u)
 
 -- ---- "Join u between p and q: left p, right q, status ins; SetR(u, q, left number of u) to p."
 -- 23 "join: bench not out", 24 "join: key not in (left, right)"
@@ -118,10 +121,11 @@ joining u p q = record { status = Ins; key = u .key; left = To (p .number); righ
 abbrev pub joinRequest : ℕ → Node → Peer → Peer → Message
 joinRequest me u p q = setR me (p .number) me (q .number) (u .lseq)
 
+abbrev pub asking : ℕ → Node → Peer → Peer → Effect
+asking me u p q = posting (joining u p q) (joinRequest me u p q) Waiting
+
 unfoldable pub joinOf : ℕ → Node → Peer → Peer → Effect
-joinOf me u p q =
-    ruled (joinRules me u p q) (refused u)
-    (posting (joining u p q) (joinRequest me u p q) Waiting)
+joinOf me u p q = ruled (joinRules me u p q) (refused u) (asking me u p q)
 
 -- ---- "Leave u: if u's right link is u, out with no message. Else del, and SetR(right, u, right number + 1) to its left link."
 abbrev pub alone : ℕ → Node → Bool
@@ -139,7 +143,10 @@ abbrev pub leaveRequest : ℕ → Node → ℕ → Message
 leaveRequest me u next = setR me (target (u .left)) (target (u .right)) me next
 
 abbrev pub leaving : ℕ → Node → Effect
-leaving me u = cond (alone me u) (quiet (withStatus Out u) LeftAlone) (posting (withStatus Del u) (leaveRequest me u (nextSeq (seqOf (u .rseq)))) Waiting)
+leaving me u =
+    cond (alone me u)
+    (quiet (withStatus Out u) LeftAlone)
+    (posting (withStatus Del u) (leaveRequest me u (nextSeq (seqOf (u .rseq)))) Waiting)
 
 unfoldable pub leaveOf : ℕ → Node → Effect
 leaveOf me u = ruled (leaveRules me u) (refused u) (leaving me u)
@@ -165,7 +172,7 @@ abbrev pub relinked : Node → ℕ → ℕ → Node
 relinked p new number = record { status = p .status; key = p .key; left = p .left; right = To new; lseq = p .lseq; rseq = Is number }
 
 abbrev pub granting : Node → Message → Message → Effect
-granting p first second = record { node = p; posts = first ∷ second ∷ []; said = done Granted }
+granting p notice answer = record { node = p; posts = notice ∷ answer ∷ []; said = done Granted }
 
 -- "Not granted: post SetRNak to v."
 abbrev pub denied : ℕ → Node → ℕ → Effect

@@ -34,7 +34,7 @@ isIn Ins = false
 isIn In = true
 isIn Del = false
 
--- a node that "has a right number"
+-- "a bench in or del"
 abbrev pub isInOrDel : Status → Bool
 isInOrDel Out = false
 isInOrDel Ins = false
@@ -59,7 +59,8 @@ numbered Unset = false
 numbered (Is n) = true
 
 -- ---- well-formedness
--- "keys .. in range"; bench numbers at most 31; "a bench not out has both links; a bench in or del has a right number"
+-- "keys .. are in range; bench numbers in links .. are declared": up to 31, for a single step; "a bench not out has both links; a
+-- bench in or del has a right number"
 unfoldable pub wellFormed : ℕ → Node → Bool
 wellFormed me u =
     nodeNumber me

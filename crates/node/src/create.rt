@@ -32,8 +32,8 @@ fn created_as(node: Node, me: u8) -> Node
         key: node.key,
         left: Link::To(me),
         right: Link::To(me),
-        lseq: 0,
-        rseq: Seq::Is(0),
+        lseq: sequence::first(),
+        rseq: Seq::Is(sequence::first()),
     }
 }
 

@@ -73,7 +73,7 @@ pub fn number_of(seq: Seq) -> u16
     ensures { λ r. ⌜ r ≡ seqOf seq ⌝ }
 {
     match seq {
-        Seq::Unset => 0,
+        Seq::Unset => sequence::first(),
         Seq::Is(n) => n,
     }
 }

@@ -62,7 +62,7 @@ fn link_fits(link: Link) -> bool
 {
     match link {
         Link::Unlinked => true,
-        Link::To(n) => n <= 31,
+        Link::To(n) => is_node_number(n),
     }
 }
 
@@ -83,10 +83,10 @@ fn kind_fits(kind: Kind) -> bool
             new,
             expected,
             number: _,
-        } => (new <= 31) & (expected <= 31),
+        } => is_node_number(new) & is_node_number(expected),
         Kind::SetRAck { number: _ } => true,
         Kind::SetRNak => true,
-        Kind::SetL { left, number: _ } => left <= 31,
+        Kind::SetL { left, number: _ } => is_node_number(left),
     }
 }
 
@@ -100,7 +100,7 @@ impl Node {
             key,
             left: Link::Unlinked,
             right: Link::Unlinked,
-            lseq: 0,
+            lseq: sequence::first(),
             rseq: Seq::Unset,
         }
     }

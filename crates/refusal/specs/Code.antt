@@ -6,23 +6,23 @@ use Rattle.refusal.specs.declared.Refusal.the-variants.{UnknownMark, Cut
 
 abbrev pub code : Refusal → ℕ
 -- "From the input"
-code UnknownMark = 1
-code CutShort = 2
-code BadDigit = 3
-code SerialTooLarge = 4
-code Undeclared = 5
-code Malformed = 6
-code ScriptTooLong = 7
+code UnknownMark = 1  -- unknown mark
+code CutShort = 2  -- record cut short
+code BadDigit = 3  -- a BCD digit above 9
+code SerialTooLarge = 4  -- a serial above 99,999,999, in binary or handed in as a number
+code Undeclared = 5  -- bench number not declared
+code Malformed = 6  -- a bench, message or floor handed in is out of shape
+code ScriptTooLong = 7  -- script over 65,536 bytes
 -- "From the state"
-code NetworkFull = 20
-code KeyTaken = 21
-code RingStands = 22
-code NotOut = 23
-code NotBetween = 24
-code NoticeWaiting = 25
-code NotIn = 26
-code SequenceSpent = 27
-code QueueFull = 28
-code NoMessage = 29
-code StartNotInserted = 30
-code OwnerNotFound = 31
+code NetworkFull = 20  -- declare: 32 benches stand
+code KeyTaken = 21  -- declare: key taken
+code RingStands = 22  -- create: some bench is not out
+code NotOut = 23  -- join: bench not out
+code NotBetween = 24  -- join: key not in (left, right)
+code NoticeWaiting = 25  -- create or join: a SetL to the bench waits
+code NotIn = 26  -- leave: bench not in
+code SequenceSpent = 27  -- leave: right number 65,535 and not alone
+code QueueFull = 28  -- 64 messages wait
+code NoMessage = 29  -- deliver: no message at that place
+code StartNotInserted = 30  -- owner: start not inserted
+code OwnerNotFound = 31  -- owner: no success within the hops, or a right link missing

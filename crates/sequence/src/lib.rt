@@ -1,6 +1,12 @@
 // Sequence numbers (paper 01's left and right numbers): compared and advanced here and nowhere else.
 ghost use mathlib.Core.Path.{_≡_};
-ghost use Rattle.sequence.specs.Sequence.{newer, hasNext, cappedNext};
+ghost use Rattle.sequence.specs.Sequence.{firstSeq, newer, hasNext, cappedNext};
+
+pub fn first() -> u16
+    ensures { λ r. ⌜ r ≡ firstSeq ⌝ }
+{
+    0
+}
 
 pub fn is_newer(n: u16, than: u16) -> bool
     ensures { λ r. ⌜ r ≡ newer n than ⌝ }

@@ -4,7 +4,7 @@ use borrow.Author.Needs.{needs}
 use mathlib.Core.Path.{_∙_}
 use Rattle.refusal.proofs.Laws.{on-refuse, on-clear}
 use Rattle.node.specs.declared.Outcome.the-variants.{Created}
-use Rattle.node.specs.Actions.{createOf, createRules, refused, quiet, created}
+use Rattle.node.specs.Actions.{createOf, createRules, creating, refused, quiet}
 use Rattle.node.proofs.Node.create.Statement.{statement}
 use Rattle.node.proofs.Node.create.Tie as tie
 
@@ -14,7 +14,7 @@ returns c =
     let called = c .before .before .before .before in
     let u = called .before .args in
     c .refuse .ensures
-    ∙ on-refuse (createRules (u .me) (u .self)) (called .check .ensures) (refused (u .self)) (quiet (created (u .me) (u .self)) Created) (c .before .before .refusal .given .1)
+    ∙ on-refuse (createRules (u .me) (u .self)) (called .check .ensures) (refused (u .self)) (creating (u .me) (u .self)) (c .before .before .refusal .given .1)
 
 returns-2 : tie.Need-returns-2
 unfolding createOf
@@ -24,7 +24,7 @@ returns-2 c =
     let u = called .before .args in
     c .silent .ensures
     ∙ (λ i. quiet (c .before .created-as .ensures i) Created)
-    ∙ on-clear (createRules (u .me) (u .self)) (called .check .ensures) (refused (u .self)) (quiet (created (u .me) (u .self)) Created) (clear .enum-told .given .1)
+    ∙ on-clear (createRules (u .me) (u .self)) (called .check .ensures) (refused (u .self)) (creating (u .me) (u .self)) (clear .enum-told .given .1)
 
 pub create-spec : {M : Type 1} → statement M
 create-spec =

@@ -1,12 +1,10 @@
 -- `node::Node::declared` meets its contract. Assumes nothing.
-use mathlib.Core.Path.{refl}
-use Rattle.sequence.specs.Sequence.{firstSeq}
+use borrow.Author.Needs.{needs}
 use Rattle.node.proofs.Node.declared.Statement.{statement}
 use Rattle.node.proofs.Node.declared.Tie as tie
 
 returns : tie.Need-returns
-unfolding firstSeq
-returns c = refl
+returns c = simp (c .first .ensures)
 
 pub declared-spec : {M : Type 1} → statement M
-declared-spec = tie.close (tie.spec returns)
+declared-spec = tie.close (tie.spec (λ c κs. search needs) returns)

@@ -4,7 +4,7 @@ use borrow.Author.Needs.{needs}
 use mathlib.Core.Path.{_∙_}
 use Rattle.refusal.proofs.Laws.{on-refuse, on-clear}
 use Rattle.node.specs.declared.Outcome.the-variants.{Waiting}
-use Rattle.node.specs.Actions.{joinOf, joinRules, refused, posting, joining, joinRequest}
+use Rattle.node.specs.Actions.{joinOf, joinRules, refused, posting, asking}
 use Rattle.node.proofs.Node.join.Statement.{statement}
 use Rattle.node.proofs.Node.join.Tie as tie
 
@@ -13,7 +13,7 @@ unfolding joinOf
 returns c =
     let called = c .before .before .before .before in
     let u = called .before .args in
-    c .refuse .ensures ∙ on-refuse (joinRules (u .me) (u .self) (u .left) (u .right)) (called .check .ensures) (refused (u .self)) _ (c .before .before .refusal .given .1)
+    c .refuse .ensures ∙ on-refuse (joinRules (u .me) (u .self) (u .left) (u .right)) (called .check .ensures) (refused (u .self)) (asking (u .me) (u .self) (u .left) (u .right)) (c .before .before .refusal .given .1)
 
 returns-2 : tie.Need-returns-2
 unfolding joinOf
@@ -23,7 +23,7 @@ returns-2 c =
     let u = called .before .args in
     c .posts-one .ensures
     ∙ (λ i. posting (c .before .joining-between .ensures i) (c .before .before .join-request .ensures i) Waiting)
-    ∙ on-clear (joinRules (u .me) (u .self) (u .left) (u .right)) (called .check .ensures) (refused (u .self)) _ (clear .enum-told .given .1)
+    ∙ on-clear (joinRules (u .me) (u .self) (u .left) (u .right)) (called .check .ensures) (refused (u .self)) (asking (u .me) (u .self) (u .left) (u .right)) (clear .enum-told .given .1)
 
 pub join-spec : {M : Type 1} → statement M
 join-spec =

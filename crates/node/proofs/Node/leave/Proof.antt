@@ -16,7 +16,7 @@ unfolding leaveOf
 returns c =
     let called = c .before .before .before .before in
     let u = called .before .args in
-    c .refuse .ensures ∙ on-refuse (leaveRules (u .me) (u .self)) (called .check .ensures) (refused (u .self)) _ (c .before .before .refusal .given .1)
+    c .refuse .ensures ∙ on-refuse (leaveRules (u .me) (u .self)) (called .check .ensures) (refused (u .self)) (leaving (u .me) (u .self)) (c .before .before .refusal .given .1)
 
 returns-2 : tie.Need-returns-2
 unfolding leaveOf

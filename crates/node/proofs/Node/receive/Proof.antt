@@ -3,7 +3,7 @@
 use borrow.Author.Needs.{needs}
 use mathlib.Core.Path.{_∙_}
 use Rattle.refusal.proofs.Laws.{on-refuse, on-clear}
-use Rattle.node.specs.Actions.{receiveOf, receiveRules, refused}
+use Rattle.node.specs.Actions.{receiveOf, receiveRules, refused, actOf}
 use Rattle.node.proofs.Node.receive.Statement.{statement}
 use Rattle.node.proofs.Node.receive.Tie as tie
 
@@ -12,7 +12,7 @@ unfolding receiveOf
 returns c =
     let called = c .before .before .before .before in
     let u = called .before .args in
-    c .refuse .ensures ∙ on-refuse (receiveRules (u .me) (u .self) (u .message)) (called .check .ensures) (refused (u .self)) _ (c .before .before .refusal .given .1)
+    c .refuse .ensures ∙ on-refuse (receiveRules (u .me) (u .self) (u .message)) (called .check .ensures) (refused (u .self)) (actOf (u .me) (u .self) (u .message .sender) (u .message .kind)) (c .before .before .refusal .given .1)
 
 returns-2 : tie.Need-returns-2
 unfolding receiveOf
@@ -20,7 +20,7 @@ returns-2 c =
     let clear = c .before in
     let called = clear .before .before in
     let u = called .before .args in
-    c .act .ensures ∙ on-clear (receiveRules (u .me) (u .self) (u .message)) (called .check .ensures) (refused (u .self)) _ (clear .enum-told .given .1)
+    c .act .ensures ∙ on-clear (receiveRules (u .me) (u .self) (u .message)) (called .check .ensures) (refused (u .self)) (actOf (u .me) (u .self) (u .message .sender) (u .message .kind)) (clear .enum-told .given .1)
 
 pub receive-spec : {M : Type 1} → statement M
 receive-spec =

@@ -1,12 +1,10 @@
 -- `node::create::created_as` meets its contract. Assumes nothing.
-use mathlib.Core.Path.{refl}
-use Rattle.sequence.specs.Sequence.{firstSeq}
+use borrow.Author.Needs.{needs}
 use Rattle.node.proofs.create.created_as.Statement.{statement}
 use Rattle.node.proofs.create.created_as.Tie as tie
 
 returns : tie.Need-returns
-unfolding firstSeq
-returns c = refl
+returns c = simp (c .before .first .ensures, c .first2 .ensures)
 
 pub created-as-spec : {M : Type 1} → statement M
-created-as-spec = tie.close (tie.spec returns)
+created-as-spec = tie.close (tie.spec (λ c κs. search needs) (λ c κs. search needs) returns)
