@@ -1,10 +1,10 @@
 -- The cases that paper 01 marks † under "Fitter's cases", in its order, one row each: what the definition gives, and what the paper
 -- says. `Claim` proves the whole table. Definitions only.
 use mathlib.Core.Path.{_≡_}
-use mathlib.Core.Bool.{Bool, true, false}
+use mathlib.Core.Bool.{true, false}
 use mathlib.Core.List.{List, [], _∷_}
 use Prim.Native.Nat.{ℕ, _+_}
-use Rattle.refusal.specs.Rules.{Coded, done, no}
+use Rattle.refusal.specs.Rules.{done, no}
 use Rattle.serial.specs.Serial.{packedOf, binaryOf}
 use Rattle.interval.specs.Interval.{between}
 use Rattle.node.specs.declared.Status.the-variants.{Out, In}

@@ -1,16 +1,12 @@
 -- What an effect says fixes the whole answer of a step: two answers that say the same are the same. So a contract that gives a step's
 -- effect leaves nothing of the answer open. Assumes nothing.
 use mathlib.Core.Path.{_≡_, refl, ap}
-use mathlib.Core.List.{List, [], _∷_}
+use mathlib.Core.List.{[]}
 use Prim.Native.Nat.{ℕ}
 use native.Mathlib.Omega.{arith}
-use Rattle.refusal.specs.Code.{code}
-use Rattle.refusal.specs.Rules.{Coded, done, no}
 use Rattle.refusal.proofs.Laws.{code-injective}
-use Rattle.node.specs.declared.Message.{Message}
 use Rattle.node.specs.declared.Posts.{Posts}
 use Rattle.node.specs.declared.Posts.the-variants.{Nothing, One, Two}
-use Rattle.node.specs.declared.Outcome.{Outcome}
 use Rattle.node.specs.declared.Verdict.{Verdict}
 use Rattle.node.specs.declared.Verdict.the-variants.{Done, Refused}
 use Rattle.node.specs.declared.Step.{Step}

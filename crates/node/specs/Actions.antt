@@ -1,7 +1,7 @@
 -- What one node does with an order or a message: "The actions (004 Fig. 1)" of paper 01, in its order, each with its refusals before
 -- it. Every definition fixes the whole node, every message and the outcome. Definitions only.
 use Prim.Native.Nat.{ℕ}
-use mathlib.Core.Bool.{Bool, true, false, not, _&&_, _||_, cond}
+use mathlib.Core.Bool.{Bool, false, not, _&&_, _||_, cond}
 use mathlib.Core.List.{List, [], _∷_}
 use lib.Dec.{eqb}
 use Rattle.refusal.specs.Code.{code}

@@ -2,7 +2,7 @@
 -- Refusal 6 is given exactly where it is not. Definitions only.
 use Prim.Native.Nat.{ℕ}
 use mathlib.Core.Bool.{Bool, true, false, not, _&&_, _||_}
-use lib.Dec.{leb, eqb}
+use lib.Dec.{ltb, eqb}
 use Rattle.serial.specs.Serial.{inRange}
 use Rattle.node.specs.declared.Status.{Status}
 use Rattle.node.specs.declared.Status.the-variants.{Out, Ins, In, Del}
@@ -42,42 +42,49 @@ isInOrDel In = true
 isInOrDel Del = true
 
 -- ---- links and numbers
--- "up to 32 benches, numbered from 0"
-abbrev pub nodeNumber : ℕ → Bool
-nodeNumber n = leb n 31
-
 abbrev pub linked : Link → Bool
 linked Unlinked = false
 linked (To n) = true
 
-abbrev pub linkFits : Link → Bool
-linkFits Unlinked = true
-linkFits (To n) = nodeNumber n
+-- a link that is there names one of the first `count` nodes
+abbrev pub linkFits : ℕ → Link → Bool
+linkFits count Unlinked = true
+linkFits count (To n) = ltb n count
 
 abbrev pub numbered : Seq → Bool
 numbered Unset = false
 numbered (Is n) = true
 
--- ---- well-formedness
--- "keys .. are in range; bench numbers in links .. are declared": up to 31, for a single step; "a bench not out has both links; a
--- bench in or del has a right number"
-unfoldable pub wellFormed : ℕ → Node → Bool
-wellFormed me u =
-    nodeNumber me
-    && (inRange (u .key)
-    && ((linkFits (u .left) && linkFits (u .right))
+-- ---- well-formedness among the first `count` nodes
+-- "keys .. are in range; bench numbers in links .. are declared; .. a bench not out has both links; a bench in or del has a right
+-- number"
+unfoldable pub nodeFits : ℕ → Node → Bool
+nodeFits count u =
+    inRange (u .key)
+    && ((linkFits count (u .left) && linkFits count (u .right))
     && ((isOut (u .status) || (linked (u .left) && linked (u .right)))
-    && (not (isInOrDel (u .status)) || numbered (u .rseq)))))
+    && (not (isInOrDel (u .status)) || numbered (u .rseq))))
 
-abbrev pub kindFits : Kind → Bool
-kindFits (SetR new expected number) = nodeNumber new && nodeNumber expected
-kindFits (SetRAck number) = true
-kindFits SetRNak = true
-kindFits (SetL left number) = nodeNumber left
+abbrev pub kindFits : ℕ → Kind → Bool
+kindFits count (SetR new expected number) = ltb new count && ltb expected count
+kindFits count (SetRAck number) = true
+kindFits count SetRNak = true
+kindFits count (SetL left number) = ltb left count
 
--- a message that is for this node, and names nodes by their numbers
+-- "bench numbers in .. messages are declared"
+unfoldable pub messageFits : ℕ → Message → Bool
+messageFits count m = ltb (m .sender) count && (ltb (m .to) count && kindFits count (m .kind))
+
+-- ---- what is handed in to a single step, which knows no count but the limit: "up to 32 benches, numbered from 0"
+abbrev pub capacity : ℕ
+capacity = 32
+
+unfoldable pub wellFormed : ℕ → Node → Bool
+wellFormed me u = ltb me capacity && nodeFits capacity u
+
+-- a message must be for this node
 unfoldable pub deliverable : ℕ → Message → Bool
-deliverable me m = eqb (m .to) me && (nodeNumber (m .sender) && kindFits (m .kind))
+deliverable me m = eqb (m .to) me && messageFits capacity m
 
 unfoldable pub peerFits : Peer → Bool
-peerFits p = nodeNumber (p .number) && inRange (p .key)
+peerFits p = ltb (p .number) capacity && inRange (p .key)

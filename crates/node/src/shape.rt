@@ -1,6 +1,7 @@
 // The record of a node just declared, and the tests of what is handed in to a step.
 ghost use mathlib.Core.Path.{_≡_};
-ghost use Rattle.node.specs.Shape.{declaredOf, isOut, isIn, isInOrDel, nodeNumber, linked, linkFits, numbered, wellFormed, kindFits, deliverable, peerFits};
+ghost use lib.Dec.{ltb};
+ghost use Rattle.node.specs.Shape.{declaredOf, isOut, isIn, isInOrDel, linked, linkFits, numbered, nodeFits, kindFits, messageFits, wellFormed, deliverable, peerFits};
 use crate::Kind;
 use crate::Link;
 use crate::Message;
@@ -42,12 +43,6 @@ fn is_in_or_del(status: Status) -> bool
     }
 }
 
-fn is_node_number(n: u8) -> bool
-    ensures { λ r. ⌜ r ≡ nodeNumber n ⌝ }
-{
-    n <= 31
-}
-
 fn is_linked(link: Link) -> bool
     ensures { λ r. ⌜ r ≡ linked link ⌝ }
 {
@@ -57,12 +52,18 @@ fn is_linked(link: Link) -> bool
     }
 }
 
-fn link_fits(link: Link) -> bool
-    ensures { λ r. ⌜ r ≡ linkFits link ⌝ }
+fn is_below(n: u8, count: u8) -> bool
+    ensures { λ r. ⌜ r ≡ ltb n count ⌝ }
+{
+    n < count
+}
+
+fn link_fits(link: Link, count: u8) -> bool
+    ensures { λ r. ⌜ r ≡ linkFits count link ⌝ }
 {
     match link {
         Link::Unlinked => true,
-        Link::To(n) => is_node_number(n),
+        Link::To(n) => is_below(n, count),
     }
 }
 
@@ -75,18 +76,18 @@ fn is_numbered(seq: Seq) -> bool
     }
 }
 
-fn kind_fits(kind: Kind) -> bool
-    ensures { λ r. ⌜ r ≡ kindFits kind ⌝ }
+fn kind_fits(kind: Kind, count: u8) -> bool
+    ensures { λ r. ⌜ r ≡ kindFits count kind ⌝ }
 {
     match kind {
         Kind::SetR {
             new,
             expected,
             number: _,
-        } => is_node_number(new) & is_node_number(expected),
+        } => is_below(new, count) & is_below(expected, count),
         Kind::SetRAck { number: _ } => true,
         Kind::SetRNak => true,
-        Kind::SetL { left, number: _ } => is_node_number(left),
+        Kind::SetL { left, number: _ } => is_below(left, count),
     }
 }
 
@@ -104,31 +105,48 @@ impl Node {
             rseq: Seq::Unset,
         }
     }
+
+    // Whether the node is well formed among the first `count` nodes.
+    pub fn fits(self, count: u8) -> bool
+        ensures { λ r. ⌜ r ≡ nodeFits count self ⌝ }
+    {
+        let status = self.status;
+        let left = self.left;
+        let right = self.right;
+        let rseq = self.rseq;
+        serial::in_range(self.key)
+            & ((link_fits(left, count) & link_fits(right, count))
+                & ((is_out(status) | (is_linked(left) & is_linked(right)))
+                    & (!is_in_or_del(status) | is_numbered(rseq))))
+    }
 }
+
+impl Message {
+    // Whether the message is well formed among the first `count` nodes.
+    pub fn fits(self, count: u8) -> bool
+        ensures { λ r. ⌜ r ≡ messageFits count self ⌝ }
+    {
+        let kind = self.kind;
+        (self.sender < count) & ((self.to < count) & kind_fits(kind, count))
+    }
+}
+
+// A single step knows no count but the limit of 32 nodes.
 
 pub fn is_well_formed(node: Node, me: u8) -> bool
     ensures { λ r. ⌜ r ≡ wellFormed me node ⌝ }
 {
-    let status = node.status;
-    let left = node.left;
-    let right = node.right;
-    let rseq = node.rseq;
-    is_node_number(me)
-        & (serial::in_range(node.key)
-            & ((link_fits(left) & link_fits(right))
-                & ((is_out(status) | (is_linked(left) & is_linked(right)))
-                    & (!is_in_or_del(status) | is_numbered(rseq)))))
+    (me < 32) & node.fits(32)
 }
 
 pub fn is_deliverable(message: Message, me: u8) -> bool
     ensures { λ r. ⌜ r ≡ deliverable me message ⌝ }
 {
-    let kind = message.kind;
-    (message.to == me) & (is_node_number(message.sender) & kind_fits(kind))
+    (message.to == me) & message.fits(32)
 }
 
 pub fn peer_fits(peer: Peer) -> bool
     ensures { λ r. ⌜ r ≡ peerFits peer ⌝ }
 {
-    is_node_number(peer.number) & serial::in_range(peer.key)
+    (peer.number < 32) & serial::in_range(peer.key)
 }

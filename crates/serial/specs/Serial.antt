@@ -1,12 +1,12 @@
 -- Serials as paper 01 has them: "0 to 99,999,999", "packed BCD, high digits first", "binary, low byte first", and the refusals 3
 -- and 4. Definitions only.
 use Prim.Native.Nat.{ℕ, _+_, _*_, _/_, _%_, _^_}
-use mathlib.Core.Bool.{Bool, true, false, not, _&&_, _||_}
+use mathlib.Core.Bool.{Bool, true, not, _&&_}
 use mathlib.Core.List.{List, [], _∷_, reverse}
 use lib.ListN.{length}
 use lib.Dec.{leb}
 use Rattle.refusal.specs.Code.{code}
-use Rattle.refusal.specs.Rules.{Coded, done, no, Rule, _when_, ruled}
+use Rattle.refusal.specs.Rules.{Coded, done, no, _when_, ruled}
 use Rattle.serial.specs.declared.Serial.{Serial}
 use Rattle.serial.specs.declared.Serial.the-variants.{Value, Refused}
 

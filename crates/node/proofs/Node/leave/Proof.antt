@@ -2,7 +2,6 @@
 -- step is the definition's. Assumes nothing.
 use borrow.Author.Needs.{needs}
 use mathlib.Core.Path.{_∙_, sym, ap}
-use mathlib.Core.Option.{none}
 use Rattle.refusal.proofs.Laws.{on-refuse, on-clear}
 use Rattle.refusal.specs.Rules.{checked}
 use Rattle.node.specs.declared.Outcome.the-variants.{Waiting, LeftAlone}

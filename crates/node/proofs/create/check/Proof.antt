@@ -1,7 +1,7 @@
 -- `node::create::check` meets its contract, rule by rule from the last. Assumes nothing.
 use borrow.Author.Needs.{needs}
 use mathlib.Core.Path.{_∙_}
-use mathlib.Core.Bool.{not, _&&_, cond}
+use mathlib.Core.Bool.{not, cond}
 use mathlib.Core.Option.{none, some}
 use Rattle.node.proofs.create.check.Statement.{statement}
 use Rattle.node.proofs.create.check.Tie as tie

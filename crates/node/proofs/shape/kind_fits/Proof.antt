@@ -5,10 +5,10 @@ use Rattle.node.proofs.shape.kind_fits.Statement.{statement}
 use Rattle.node.proofs.shape.kind_fits.Tie as tie
 
 returns : tie.Need-returns
-returns c = rw (c .before .before .before .kind .given .1) (λ i. c .before .is-node-number .ensures i && c .is-node-number2 .ensures i)
+returns c = rw (c .before .before .before .kind .given .1) (λ i. c .before .is-below .ensures i && c .is-below2 .ensures i)
 
 returns-4 : tie.Need-returns-4
-returns-4 c = rw (c .before .before .kind2 .given .1) (c .is-node-number3 .ensures)
+returns-4 c = rw (c .before .before .kind2 .given .1) (c .is-below3 .ensures)
 
 pub kind-fits-spec : {M : Type 1} → statement M
 kind-fits-spec =

@@ -6,7 +6,7 @@ use Rattle.node.proofs.shape.peer_fits.Tie as tie
 
 returns : tie.Need-returns
 unfolding peerFits
-returns c = simp (c .before .is-node-number .ensures, c .in-range .ensures)
+returns c = simp (c .in-range .ensures)
 
 pub peer-fits-spec : {M : Type 1} → statement M
-peer-fits-spec = tie.close (tie.spec (λ c κs. search needs) (λ c κs. search needs) returns)
+peer-fits-spec = tie.close (tie.spec (λ c κs. search needs) returns)

@@ -1,0 +1,208 @@
+-- A step keeps things well formed: among any number of nodes, a node that fits is left as one that fits, and what it posts fits. So no
+-- step of a well-formed node leads to a refusal 6 of the next, and whoever holds many nodes has their part of it here.
+-- Assumes nothing.
+use mathlib.Core.Path.{_≡_, refl, sym, ap}
+use mathlib.Core.Bool.{Bool, true, false, not, _&&_, _||_, cond}
+use mathlib.Core.List.{List, [], _∷_, List·Memᴰ·head as here, List·Memᴰ·tail as there}
+use mathlib.Core.Option.{Option, none, some}
+use Prim.Native.Nat.{ℕ}
+use lib.Dec.{ltb, eqb}
+use borrow.Author.Tests.{not-false}
+use Rattle.truth.proofs.Laws.{both, true-is-not-false}
+use Rattle.refusal.specs.Rules.{first, settled}
+use Rattle.refusal.proofs.Laws.{clear-of}
+use Rattle.serial.specs.Serial.{inRange}
+use Rattle.sequence.specs.Sequence.{nextSeq, newer}
+use Rattle.node.specs.declared.Status.{Status}
+use Rattle.node.specs.declared.Status.the-variants.{Out, Ins, In, Del}
+use Rattle.node.specs.declared.Link.{Link}
+use Rattle.node.specs.declared.Link.the-variants.{Unlinked, To}
+use Rattle.node.specs.declared.Node.{Node}
+use Rattle.node.specs.declared.Kind.{Kind}
+use Rattle.node.specs.declared.Kind.the-variants.{SetR, SetRAck, SetRNak, SetL}
+use Rattle.node.specs.declared.Message.{Message}
+use Rattle.node.specs.declared.Peer.{Peer}
+use Rattle.node.specs.Shape.{isOut, isIn, isInOrDel, linked, linkFits, numbered, nodeFits, kindFits, messageFits}
+use Rattle.node.specs.declared.Outcome.{Outcome}
+use Rattle.node.specs.declared.Outcome.the-variants.{Waiting, LeftOld, Dropped}
+use Rattle.node.specs.Actions.{Effect, refused, quiet, posting, setL, withStatus, target, seqOf, linksTo, createRules, creating, createOf, joinRules, asking, joinOf, alone, leaveRules, leaveRequest, leaving, leaveOf, grants, notice, ack, relinked, granting, onSetR, admitted, onSetRAck, onSetRNak, leftSet, onSetL, onKind, actOf, receiveRules, receiveOf}
+use Rattle.node.proofs.ActionLaws.{Grant, granted}
+
+-- ---- the facts that the test of a node says
+pub record NodeFits (count : ℕ) (u : Node) : Type 0 where
+  pub key : inRange (u .key) ≡ true
+  pub left : linkFits count (u .left) ≡ true
+  pub right : linkFits count (u .right) ≡ true
+  pub links : (isOut (u .status) || (linked (u .left) && linked (u .right))) ≡ true
+  pub seq : (not (isInOrDel (u .status)) || numbered (u .rseq)) ≡ true
+
+pub node-facts : (count : ℕ) (u : Node) → nodeFits count u ≡ true → NodeFits count u
+unfolding nodeFits
+node-facts count u h =
+    let (key, a) = both (inRange (u .key)) _ h in
+    let (b, c) = both (linkFits count (u .left) && linkFits count (u .right)) _ a in
+    let (left, right) = both (linkFits count (u .left)) _ b in
+    let (links, seq) = both (isOut (u .status) || (linked (u .left) && linked (u .right))) _ c in
+    record { key = key; left = left; right = right; links = links; seq = seq }
+
+pub node-fits : (count : ℕ) (u : Node) → NodeFits count u → nodeFits count u ≡ true
+unfolding nodeFits
+node-fits count u f = simp (f .key, f .left, f .right, f .links, f .seq)
+
+-- ---- an effect fits: the node left behind, and each message posted
+abbrev pub PostsFit : ℕ → List Message → Type 0
+PostsFit count [] = Unit {0}
+PostsFit count (m ∷ ms) = (messageFits count m ≡ true) × PostsFit count ms
+
+pub record EffectFits (count : ℕ) (e : Effect) : Type 0 where
+  pub node : NodeFits count (e .node)
+  pub posts : PostsFit count (e .posts)
+
+settled-fits : {count : ℕ} {u : Node} → NodeFits count u → (o : Option ℕ) (accepted : Effect) → (o ≡ none → EffectFits count accepted) → EffectFits count (settled o (refused u) accepted)
+settled-fits f none accepted g = g refl
+settled-fits f (some n) accepted g = record { node = f; posts = tt }
+
+cond-fits : {count : ℕ} (b : Bool) (x y : Effect) → (b ≡ true → EffectFits count x) → (b ≡ false → EffectFits count y) → EffectFits count (cond b x y)
+cond-fits true x y f g = f refl
+cond-fits false x y f g = g refl
+
+-- ---- small facts of statuses, links and messages
+in-is-not-out : (s : Status) → isIn s ≡ true → (isOut s ≡ false) × (isInOrDel s ≡ true)
+in-is-not-out Out h = absurd (true-is-not-false h)
+in-is-not-out Ins h = absurd (true-is-not-false h)
+in-is-not-out In h = (refl, refl)
+in-is-not-out Del h = absurd (true-is-not-false h)
+
+target-fits : (count : ℕ) (l : Link) → linked l ≡ true → linkFits count l ≡ true → ltb (target l) count ≡ true
+target-fits count Unlinked h k = absurd (true-is-not-false h)
+target-fits count (To n) h k = k
+
+is-linked : (l : Link) (n : ℕ) → linksTo l n ≡ true → linked l ≡ true
+is-linked Unlinked n h = absurd (true-is-not-false h)
+is-linked (To m) n h = refl
+
+or-right : (p q : Bool) → q ≡ true → (p || q) ≡ true
+or-right true q h = refl
+or-right false q h = h
+
+not-left : (p q : Bool) → p ≡ false → (p || q) ≡ true → q ≡ true
+not-left true q e h = absurd (true-is-not-false (sym e))
+not-left false q e h = h
+
+second-is-enough : (p q r : Bool) → (p || (q && r)) ≡ true → (p || (true && r)) ≡ true
+second-is-enough true q r h = refl
+second-is-enough false q r h = both q r h .1
+
+message-fits : (count : ℕ) (m : Message) → ltb (m .sender) count ≡ true → ltb (m .to) count ≡ true → kindFits count (m .kind) ≡ true → messageFits count m ≡ true
+unfolding messageFits
+message-fits count m s t k = simp (s, t, k)
+
+-- ---- the nodes that a step leaves behind
+module _ {count : ℕ} {u : Node} (f : NodeFits count u) where
+  -- a node that is not out has both links
+  both-linked : isOut (u .status) ≡ false → (linked (u .left) ≡ true) × (linked (u .right) ≡ true)
+  both-linked e = both (linked (u .left)) (linked (u .right)) (not-left (isOut (u .status)) _ e (f .links))
+
+  out-fits : NodeFits count (withStatus Out u)
+  out-fits = record { key = f .key; left = f .left; right = f .right; links = refl; seq = refl }
+
+  -- a status of a node that has its links and its right number
+  status-fits : (s : Status) → isOut (u .status) ≡ false → numbered (u .rseq) ≡ true → NodeFits count (withStatus s u)
+  status-fits s e n =
+      let (l, r) = both-linked e in
+      record { key = f .key; left = f .left; right = f .right; links = or-right (isOut s) _ (rw l r); seq = or-right (not (isInOrDel s)) _ n }
+
+  admitted-fits : (number : ℕ) → isOut (u .status) ≡ false → NodeFits count (admitted u number)
+  admitted-fits number e =
+      let (l, r) = both-linked e in
+      record { key = f .key; left = f .left; right = f .right; links = rw l r; seq = refl }
+
+  relinked-fits : (new number : ℕ) → ltb new count ≡ true → isOut (u .status) ≡ false → NodeFits count (relinked u new number)
+  relinked-fits new number h e =
+      let (l, r) = both-linked e in
+      record { key = f .key; left = f .left; right = h; links = or-right (isOut (u .status)) _ (rw l refl); seq = or-right (not (isInOrDel (u .status))) true refl }
+
+  left-set-fits : (left number : ℕ) → ltb left count ≡ true → NodeFits count (leftSet u left number)
+  left-set-fits left number h =
+      record { key = f .key; left = h; right = f .right; links = second-is-enough (isOut (u .status)) (linked (u .left)) (linked (u .right)) (f .links); seq = f .seq }
+
+  quiet-fits : (o : Outcome) → EffectFits count (quiet u o)
+  quiet-fits o = record { node = f; posts = tt }
+
+-- ---- the steps
+module _ (count me : ℕ) (me-in : ltb me count ≡ true) (u : Node) (f : NodeFits count u) where
+  pub create-fits : EffectFits count (createOf me u)
+  unfolding createOf
+  create-fits = settled-fits f (first (createRules me u)) (creating me u) (λ clear. record {
+    node = record { key = f .key; left = me-in; right = me-in; links = refl; seq = refl };
+    posts = tt;
+  })
+
+  pub join-fits : (p q : Peer) → ltb (p .number) count ≡ true → ltb (q .number) count ≡ true → EffectFits count (joinOf me u p q)
+  unfolding joinOf
+  join-fits p q hp hq = settled-fits f (first (joinRules me u p q)) (asking me u p q) (λ clear. record {
+    node = record { key = f .key; left = hp; right = hq; links = refl; seq = refl };
+    posts = (message-fits count _ me-in hp (simp (me-in, hq)), tt);
+  })
+
+  pub leave-fits : EffectFits count (leaveOf me u)
+  unfolding leaveOf
+  leave-fits = settled-fits f (first (leaveRules me u)) (leaving me u) (λ clear. cond-fits (alone me u) _ _ (λ _. record { node = out-fits f; posts = tt }) (λ _. by-request (is-in clear)))
+    where
+      is-in : first (leaveRules me u) ≡ none → isIn (u .status) ≡ true
+      is-in clear = not-false (isIn (u .status)) (clear-of {n = 26} {refuses = not (isIn (u .status))} {rules = leaveRules me u} clear (there (here refl)))
+
+      by-request : isIn (u .status) ≡ true → EffectFits count (posting (withStatus Del u) (leaveRequest me u (nextSeq (seqOf (u .rseq)))) Waiting)
+      by-request h =
+          let (not-out, has-seq) = in-is-not-out (u .status) h in
+          let (l, r) = both-linked f not-out in
+          let n = not-left (not (isInOrDel (u .status))) (numbered (u .rseq)) (ap not has-seq) (f .seq) in
+          record {
+            node = status-fits f Del not-out n;
+            posts = (message-fits count _ me-in (target-fits count (u .left) l (f .left)) (simp (target-fits count (u .right) r (f .right), me-in)), tt);
+          }
+
+  module _ (v : ℕ) (v-in : ltb v count ≡ true) where
+    set-r-fits : (new expected number : ℕ) → ltb new count ≡ true → EffectFits count (onSetR me u v new expected number)
+    set-r-fits new expected number h = cond-fits (grants u v new expected) _ _ (λ g. grant (granted u v new expected g)) (λ _. record { node = f; posts = (message-fits count _ me-in v-in refl, tt) })
+      where
+        notice-fits : linked (u .right) ≡ true → messageFits count (notice me u v new number) ≡ true
+        notice-fits r = go (eqb new v)
+          where
+            go : (b : Bool) → messageFits count (cond b (setL me (target (u .right)) v (nextSeq (seqOf (u .rseq)))) (setL me new me number)) ≡ true
+            go true = message-fits count _ me-in (target-fits count (u .right) r (f .right)) v-in
+            go false = message-fits count _ me-in h me-in
+
+        grant : Grant u v new expected → EffectFits count (granting (relinked u new number) (notice me u v new number) (ack me u v))
+        grant g = record {
+          node = relinked-fits f new number h (in-is-not-out (u .status) (g .is-in) .0);
+          posts = (notice-fits (is-linked (u .right) expected (g .right)), (message-fits count _ me-in v-in refl, tt));
+        }
+
+    set-r-ack-fits : (number : ℕ) (s : Status) → u .status ≡ s → EffectFits count (onSetRAck s u number)
+    set-r-ack-fits number Out e = quiet-fits f Dropped
+    set-r-ack-fits number Ins e = record { node = admitted-fits f number (ap isOut e); posts = tt }
+    set-r-ack-fits number In e = quiet-fits f Dropped
+    set-r-ack-fits number Del e = record { node = out-fits f; posts = tt }
+
+    set-r-nak-fits : (s : Status) → u .status ≡ s → EffectFits count (onSetRNak s u)
+    set-r-nak-fits Out e = quiet-fits f Dropped
+    set-r-nak-fits Ins e = record { node = out-fits f; posts = tt }
+    set-r-nak-fits In e = quiet-fits f Dropped
+    set-r-nak-fits Del e = record { node = status-fits f In (ap isOut e) (not-left (not (isInOrDel (u .status))) (numbered (u .rseq)) (ap (λ s. not (isInOrDel s)) e) (f .seq)); posts = tt }
+
+    set-l-fits : (left number : ℕ) → ltb left count ≡ true → EffectFits count (onSetL u left number)
+    set-l-fits left number h = cond-fits (newer number (u .lseq)) _ _ (λ _. record { node = left-set-fits f left number h; posts = tt }) (λ _. quiet-fits f LeftOld)
+
+    kind-fits : (kind : Kind) → kindFits count kind ≡ true → EffectFits count (onKind me u v kind)
+    kind-fits (SetR new expected number) k = set-r-fits new expected number (both (ltb new count) (ltb expected count) k .0)
+    kind-fits (SetRAck number) k = set-r-ack-fits number (u .status) refl
+    kind-fits SetRNak k = set-r-nak-fits (u .status) refl
+    kind-fits (SetL left number) k = set-l-fits left number k
+
+  pub receive-fits : (m : Message) → messageFits count m ≡ true → EffectFits count (receiveOf me u m)
+  unfolding receiveOf messageFits
+  receive-fits m h =
+      let (s, a) = both (ltb (m .sender) count) _ h in
+      let (t, k) = both (ltb (m .to) count) _ a in
+      settled-fits f (first (receiveRules me u m)) (actOf me u (m .sender) (m .kind)) (λ clear. cond-fits (isOut (u .status)) _ _ (λ _. quiet-fits f Dropped) (λ _. kind-fits (m .sender) s (m .kind) k))
