@@ -12,7 +12,7 @@ use Rattle.truth.proofs.Laws.{and-T, or-T, or-iff}
 use Rattle.interval.specs.Interval.{between, within}
 
 -- ---- the facts
--- u lies in (a, b): it is right of a, or left of b where b is not right of a, or both where it is
+-- u lies in (a, b): between the two where a < b, else above a or below b
 pub data Between (a b u : ℕ) : Type 0 where
   inside : a < u → u < b → Between a b u
   above : b ≤ a → a < u → Between a b u

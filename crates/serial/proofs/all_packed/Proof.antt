@@ -1,6 +1,5 @@
 -- `serial::all_packed` meets its contract: the four tests of two digits each are the test of the eight. Assumes nothing.
 use mathlib.Core.Bool.{and-assoc}
-use borrow.Author.Needs.{needs}
 use Rattle.serial.proofs.all_packed.Statement.{statement}
 use Rattle.serial.proofs.all_packed.Tie as tie
 
@@ -11,4 +10,4 @@ returns c =
 pub all-packed-spec : {M : Type 1} → statement M
 all-packed-spec =
     tie.close
-    (tie.spec (λ c κs. search needs) (λ c κs. search needs) (λ c κs. search needs) (λ c κs. search needs) returns)
+    (tie.spec (λ c κs. tt) (λ c κs. tt) (λ c κs. tt) (λ c κs. tt) returns)

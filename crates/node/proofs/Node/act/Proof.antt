@@ -31,17 +31,17 @@ pub act-spec : {M : Type 1} → statement M
 act-spec =
     tie.close
     (tie.spec
-    (λ c κs. search needs)
-    (λ c κs. search needs)
+    (λ c κs. tt)
+    (λ c κs. tt)
     returns
     (λ c. search needs)
-    (λ c κs. search needs)
+    (λ c κs. tt)
     (λ c. search needs)
-    (λ c κs. search needs)
+    (λ c κs. tt)
     (λ c. search needs)
-    (λ c κs. search needs)
+    (λ c κs. tt)
     (λ c. search needs)
-    (λ c κs. search needs)
+    (λ c κs. tt)
     returns-2
     returns-3
     returns-4

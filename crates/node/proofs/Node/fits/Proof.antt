@@ -1,5 +1,4 @@
 -- `node::Node::fits` meets its contract: each test is a clause of the definition. Assumes nothing.
-use borrow.Author.Needs.{needs}
 use Rattle.node.specs.Shape.{nodeFits}
 use Rattle.node.proofs.Node.fits.Statement.{statement}
 use Rattle.node.proofs.Node.fits.Tie as tie
@@ -12,12 +11,12 @@ pub fits-spec : {M : Type 1} → statement M
 fits-spec =
     tie.close
     (tie.spec
-    (λ c κs. search needs)
-    (λ c κs. search needs)
-    (λ c κs. search needs)
-    (λ c κs. search needs)
-    (λ c κs. search needs)
-    (λ c κs. search needs)
-    (λ c κs. search needs)
-    (λ c κs. search needs)
+    (λ c κs. tt)
+    (λ c κs. tt)
+    (λ c κs. tt)
+    (λ c κs. tt)
+    (λ c κs. tt)
+    (λ c κs. tt)
+    (λ c κs. tt)
+    (λ c κs. tt)
     returns)

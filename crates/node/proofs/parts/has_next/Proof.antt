@@ -1,5 +1,4 @@
 -- `node::parts::has_next` meets its contract. Assumes nothing.
-use borrow.Author.Needs.{needs}
 use mathlib.Core.Path.{_∙_, ap}
 use Rattle.sequence.specs.Sequence.{hasNext}
 use Rattle.node.proofs.parts.has_next.Statement.{statement}
@@ -9,4 +8,4 @@ returns : tie.Need-returns
 returns c = c .has-next .ensures ∙ ap hasNext (c .before .number-of .ensures)
 
 pub has-next-spec : {M : Type 1} → statement M
-has-next-spec = tie.close (tie.spec (λ c κs. search needs) (λ c κs. search needs) returns)
+has-next-spec = tie.close (tie.spec (λ c κs. tt) (λ c κs. tt) returns)

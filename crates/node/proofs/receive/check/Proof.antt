@@ -1,5 +1,4 @@
 -- `node::receive::check` meets its contract: its one rule is the definition's. Assumes nothing.
-use borrow.Author.Needs.{needs}
 use mathlib.Core.Path.{_∙_}
 use mathlib.Core.Bool.{not, _&&_, cond}
 use mathlib.Core.Option.{none, some}
@@ -13,4 +12,4 @@ returns c =
 
 pub check-spec : {M : Type 1} → statement M
 check-spec =
-    tie.close (tie.spec (λ c κs. search needs) (λ c κs. search needs) (λ c κs. search needs) returns)
+    tie.close (tie.spec (λ c κs. tt) (λ c κs. tt) (λ c κs. tt) returns)

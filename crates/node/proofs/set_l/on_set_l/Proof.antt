@@ -1,5 +1,4 @@
 -- `node::set_l::on_set_l` meets its contract: the branch is the test of the definition. Assumes nothing.
-use borrow.Author.Needs.{needs}
 use Rattle.node.proofs.set_l.on_set_l.Statement.{statement}
 use Rattle.node.proofs.set_l.on_set_l.Tie as tie
 
@@ -13,9 +12,9 @@ pub on-set-l-spec : {M : Type 1} → statement M
 on-set-l-spec =
     tie.close
     (tie.spec
-    (λ c κs. search needs)
-    (λ c κs. search needs)
-    (λ c κs. search needs)
-    (λ c κs. search needs)
+    (λ c κs. tt)
+    (λ c κs. tt)
+    (λ c κs. tt)
+    (λ c κs. tt)
     returns
     returns-2)

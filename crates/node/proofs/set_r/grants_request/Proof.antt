@@ -1,5 +1,4 @@
 -- `node::set_r::grants_request` meets its contract: each test is a clause of the definition. Assumes nothing.
-use borrow.Author.Needs.{needs}
 use Rattle.node.specs.Actions.{grants}
 use Rattle.node.proofs.set_r.grants_request.Statement.{statement}
 use Rattle.node.proofs.set_r.grants_request.Tie as tie
@@ -10,4 +9,4 @@ returns c = simp (c .before .before .is-in .ensures, c .before .links-to .ensure
 
 pub grants-request-spec : {M : Type 1} → statement M
 grants-request-spec =
-    tie.close (tie.spec (λ c κs. search needs) (λ c κs. search needs) (λ c κs. search needs) returns)
+    tie.close (tie.spec (λ c κs. tt) (λ c κs. tt) (λ c κs. tt) returns)

@@ -15,12 +15,12 @@ kind-fits-spec =
     tie.close
     (tie.spec
     (λ c. search needs)
-    (λ c κs. search needs)
-    (λ c κs. search needs)
+    (λ c κs. tt)
+    (λ c κs. tt)
     (λ c. search needs)
     (λ c. search needs)
     (λ c. search needs)
-    (λ c κs. search needs)
+    (λ c κs. tt)
     returns
     (λ c. search needs)
     (λ c. search needs)
