@@ -9,7 +9,7 @@ use native.Mathlib.Omega.{arith}
 use lib.ListN.{getD}
 use lib.Dec.{ltb}
 use Rattle.refusal.specs.declared.Refusal.{Refusal}
-use Rattle.refusal.specs.declared.Refusal.the-variants.{UnknownMark, CutShort, BadDigit, SerialTooLarge, Undeclared, Malformed, ScriptTooLong, NetworkFull, KeyTaken, RingStands, NotOut, NotBetween, NoticeWaiting, NotIn, SequenceSpent, QueueFull, NoMessage, StartNotInserted, OwnerNotFound}
+use Rattle.refusal.specs.declared.Refusal.the-variants.{UnknownMark, CutShort, BadDigit, SerialTooLarge, Undeclared, Malformed, ScriptTooLong, NetworkFull, KeyTaken, NotAllOut, NotOut, NotBetween, NoticeWaiting, NotIn, SequenceSpent, QueueFull, NoMessage, StartNotInserted, OwnerNotFound}
 use Rattle.refusal.specs.declared.Check.{Check}
 use Rattle.refusal.specs.declared.Check.the-variants.{Clear, Refuse}
 use Rattle.refusal.specs.Code.{code}
@@ -20,7 +20,7 @@ fromInput : List Refusal
 fromInput = UnknownMark ∷ CutShort ∷ BadDigit ∷ SerialTooLarge ∷ Undeclared ∷ Malformed ∷ ScriptTooLong ∷ []
 
 fromState : List Refusal
-fromState = NetworkFull ∷ KeyTaken ∷ RingStands ∷ NotOut ∷ NotBetween ∷ NoticeWaiting ∷ NotIn ∷ SequenceSpent ∷ QueueFull ∷ NoMessage ∷ StartNotInserted ∷ OwnerNotFound ∷ []
+fromState = NetworkFull ∷ KeyTaken ∷ NotAllOut ∷ NotOut ∷ NotBetween ∷ NoticeWaiting ∷ NotIn ∷ SequenceSpent ∷ QueueFull ∷ NoMessage ∷ StartNotInserted ∷ OwnerNotFound ∷ []
 
 named : ℕ → Refusal
 named n = cond (ltb n 20) (getD fromInput (n - 1) UnknownMark) (getD fromState (n - 20) UnknownMark)
@@ -36,7 +36,7 @@ named-code Malformed = refl
 named-code ScriptTooLong = refl
 named-code NetworkFull = refl
 named-code KeyTaken = refl
-named-code RingStands = refl
+named-code NotAllOut = refl
 named-code NotOut = refl
 named-code NotBetween = refl
 named-code NoticeWaiting = refl

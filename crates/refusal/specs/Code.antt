@@ -2,7 +2,7 @@
 -- states a number, and reads the code's answer through `code`.
 use Prim.Native.Nat.{ℕ}
 use Rattle.refusal.specs.declared.Refusal.{Refusal}
-use Rattle.refusal.specs.declared.Refusal.the-variants.{UnknownMark, CutShort, BadDigit, SerialTooLarge, Undeclared, Malformed, ScriptTooLong, NetworkFull, KeyTaken, RingStands, NotOut, NotBetween, NoticeWaiting, NotIn, SequenceSpent, QueueFull, NoMessage, StartNotInserted, OwnerNotFound}
+use Rattle.refusal.specs.declared.Refusal.the-variants.{UnknownMark, CutShort, BadDigit, SerialTooLarge, Undeclared, Malformed, ScriptTooLong, NetworkFull, KeyTaken, NotAllOut, NotOut, NotBetween, NoticeWaiting, NotIn, SequenceSpent, QueueFull, NoMessage, StartNotInserted, OwnerNotFound}
 
 abbrev pub code : Refusal → ℕ
 -- "From the input"
@@ -16,7 +16,7 @@ code ScriptTooLong = 7  -- script over 65,536 bytes
 -- "From the state"
 code NetworkFull = 20  -- declare: 32 benches stand
 code KeyTaken = 21  -- declare: key taken
-code RingStands = 22  -- create: some bench is not out
+code NotAllOut = 22  -- create: some bench is not out
 code NotOut = 23  -- join: bench not out
 code NotBetween = 24  -- join: key not in (left, right)
 code NoticeWaiting = 25  -- create or join: a SetL to the bench waits

@@ -18,7 +18,7 @@ pub enum Refusal {
     // From the state.
     NetworkFull,
     KeyTaken,
-    RingStands,
+    NotAllOut,
     NotOut,
     NotBetween,
     NoticeWaiting,
@@ -44,7 +44,7 @@ impl Refusal {
             Refusal::ScriptTooLong => 7,
             Refusal::NetworkFull => 20,
             Refusal::KeyTaken => 21,
-            Refusal::RingStands => 22,
+            Refusal::NotAllOut => 22,
             Refusal::NotOut => 23,
             Refusal::NotBetween => 24,
             Refusal::NoticeWaiting => 25,
