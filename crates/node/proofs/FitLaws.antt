@@ -8,7 +8,7 @@ use mathlib.Core.Option.{Option, none, some}
 use Prim.Native.Nat.{ℕ}
 use lib.Dec.{ltb, eqb}
 use borrow.Author.Tests.{not-false}
-use Rattle.truth.proofs.Laws.{both, true-is-not-false}
+use Rattle.truth.proofs.Laws.{both, or-right, not-left, true-is-not-false}
 use Rattle.refusal.specs.Rules.{first, settled}
 use Rattle.refusal.proofs.Laws.{clear-of}
 use Rattle.serial.specs.Serial.{inRange}
@@ -80,14 +80,6 @@ target-fits count (To n) h k = k
 is-linked : (l : Link) (n : ℕ) → linksTo l n ≡ true → linked l ≡ true
 is-linked Unlinked n h = absurd (true-is-not-false h)
 is-linked (To m) n h = refl
-
-or-right : (p q : Bool) → q ≡ true → (p || q) ≡ true
-or-right true q h = refl
-or-right false q h = h
-
-not-left : (p q : Bool) → p ≡ false → (p || q) ≡ true → q ≡ true
-not-left true q e h = absurd (true-is-not-false (sym e))
-not-left false q e h = h
 
 second-is-enough : (p q r : Bool) → (p || (q && r)) ≡ true → (p || (true && r)) ≡ true
 second-is-enough true q r h = refl

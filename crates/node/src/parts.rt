@@ -69,7 +69,7 @@ pub fn target_of(link: Link) -> u8
     }
 }
 
-pub fn number_of(seq: Seq) -> u16
+fn number_of(seq: Seq) -> u16
     ensures { λ r. ⌜ r ≡ seqOf seq ⌝ }
 {
     match seq {

@@ -1,6 +1,5 @@
 // The record of a node just declared, and the tests of what is handed in to a step.
 ghost use mathlib.Core.Path.{_≡_};
-ghost use lib.Dec.{ltb};
 ghost use Rattle.node.specs.Shape.{declaredOf, isOut, isIn, isInOrDel, linked, linkFits, numbered, nodeFits, kindFits, messageFits, wellFormed, deliverable, peerFits};
 use crate::Kind;
 use crate::Link;
@@ -52,18 +51,12 @@ fn is_linked(link: Link) -> bool
     }
 }
 
-fn is_below(n: u8, count: u8) -> bool
-    ensures { λ r. ⌜ r ≡ ltb n count ⌝ }
-{
-    n < count
-}
-
 fn link_fits(link: Link, count: u8) -> bool
     ensures { λ r. ⌜ r ≡ linkFits count link ⌝ }
 {
     match link {
         Link::Unlinked => true,
-        Link::To(n) => is_below(n, count),
+        Link::To(n) => n < count,
     }
 }
 
@@ -84,10 +77,10 @@ fn kind_fits(kind: Kind, count: u8) -> bool
             new,
             expected,
             number: _,
-        } => is_below(new, count) & is_below(expected, count),
+        } => (new < count) & (expected < count),
         Kind::SetRAck { number: _ } => true,
         Kind::SetRNak => true,
-        Kind::SetL { left, number: _ } => is_below(left, count),
+        Kind::SetL { left, number: _ } => left < count,
     }
 }
 
@@ -131,22 +124,23 @@ impl Message {
     }
 }
 
-// A single step knows no count but the limit of 32 nodes.
+// A single step knows no count but this limit.
+const CAPACITY: u8 = 32;
 
 pub fn is_well_formed(node: Node, me: u8) -> bool
     ensures { λ r. ⌜ r ≡ wellFormed me node ⌝ }
 {
-    (me < 32) & node.fits(32)
+    (me < CAPACITY) & node.fits(CAPACITY)
 }
 
 pub fn is_deliverable(message: Message, me: u8) -> bool
     ensures { λ r. ⌜ r ≡ deliverable me message ⌝ }
 {
-    (message.to == me) & message.fits(32)
+    (message.to == me) & message.fits(CAPACITY)
 }
 
 pub fn peer_fits(peer: Peer) -> bool
     ensures { λ r. ⌜ r ≡ peerFits peer ⌝ }
 {
-    (peer.number < 32) & serial::in_range(peer.key)
+    (peer.number < CAPACITY) & serial::in_range(peer.key)
 }

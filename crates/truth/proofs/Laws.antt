@@ -1,6 +1,6 @@
 -- What it says that a test put together from others is true. A test comes as an equation, `b ≡ true`, or as a type, `T b`.
 -- Assumes nothing.
-use mathlib.Core.Path.{_≡_, refl}
+use mathlib.Core.Path.{_≡_, refl, sym}
 use mathlib.Core.Logic.{_⊎_, inl, inr, ⊎-elim, _↔_}
 use mathlib.Core.Bool.{Bool, true, false, _&&_, _||_}
 use Prim.Native.Nat.{ℕ}
@@ -13,6 +13,14 @@ true-is-not-false e = let z : _≡_ {A = ℕ} 0 1 = cc in omega arith
 pub both : (p q : Bool) → (p && q) ≡ true → (p ≡ true) × (q ≡ true)
 both true q h = (refl, h)
 both false q h = absurd (true-is-not-false h)
+
+pub or-right : (p q : Bool) → q ≡ true → (p || q) ≡ true
+or-right true q h = refl
+or-right false q h = h
+
+pub not-left : (p q : Bool) → p ≡ false → (p || q) ≡ true → q ≡ true
+not-left true q e h = absurd (true-is-not-false (sym e))
+not-left false q e h = h
 
 pub and-T : (p q : Bool) → T (p && q) ↔ (T p × T q)
 and-T true q = (λ t. (tt, t), λ t. t .1)
