@@ -1,7 +1,7 @@
 -- A step keeps things well formed: among any number of nodes, a node that fits is left as one that fits, and what it posts fits. So no
 -- step of a well-formed node leads to a refusal 6 of the next, and whoever holds many nodes has their part of it here.
 -- Assumes nothing.
-use mathlib.Core.Path.{_≡_, refl, sym, ap}
+use mathlib.Core.Path.{_≡_, refl, ap}
 use mathlib.Core.Bool.{Bool, true, false, not, _&&_, _||_, cond}
 use mathlib.Core.List.{List, [], _∷_, List·Memᴰ·head as here, List·Memᴰ·tail as there}
 use mathlib.Core.Option.{Option, none, some}
