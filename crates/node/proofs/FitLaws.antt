@@ -5,9 +5,10 @@ use mathlib.Core.Path.{_≡_, refl, ap}
 use mathlib.Core.Bool.{Bool, true, false, not, _&&_, _||_, cond}
 use mathlib.Core.List.{List, [], _∷_, List·Memᴰ·head as here, List·Memᴰ·tail as there}
 use mathlib.Core.Option.{Option, none, some}
-use Prim.Native.Nat.{ℕ}
+use Prim.Native.Nat.{ℕ, _≤_, _<_}
+use native.Mathlib.Omega.{arith}
 use lib.Dec.{ltb, eqb}
-use borrow.Author.Tests.{not-false}
+use borrow.Author.Tests.{ltb-true, lt-ltb, eq-eqb, not-false}
 use Rattle.truth.proofs.Laws.{both, or-right, not-left, true-is-not-false}
 use Rattle.refusal.specs.Rules.{first, settled}
 use Rattle.refusal.proofs.Laws.{clear-of}
@@ -17,12 +18,14 @@ use Rattle.node.specs.declared.Status.{Status}
 use Rattle.node.specs.declared.Status.the-variants.{Out, Ins, In, Del}
 use Rattle.node.specs.declared.Link.{Link}
 use Rattle.node.specs.declared.Link.the-variants.{Unlinked, To}
+use Rattle.node.specs.declared.Seq.{Seq}
+use Rattle.node.specs.declared.Seq.the-variants.{Unset, Is}
 use Rattle.node.specs.declared.Node.{Node}
 use Rattle.node.specs.declared.Kind.{Kind}
 use Rattle.node.specs.declared.Kind.the-variants.{SetR, SetRAck, SetRNak, SetL}
 use Rattle.node.specs.declared.Message.{Message}
 use Rattle.node.specs.declared.Peer.{Peer}
-use Rattle.node.specs.Shape.{isOut, isIn, isInOrDel, linked, linkFits, numbered, nodeFits, kindFits, messageFits}
+use Rattle.node.specs.Shape.{isOut, isIn, isInOrDel, linked, linkFits, numbered, nodeFits, kindFits, messageFits, capacity, wellFormed, deliverable}
 use Rattle.node.specs.declared.Outcome.{Outcome}
 use Rattle.node.specs.declared.Outcome.the-variants.{Waiting, LeftOld, Dropped}
 use Rattle.node.specs.Actions.{Effect, refused, quiet, posting, setL, withStatus, target, seqOf, linksTo, createRules, creating, createOf, joinRules, asking, joinOf, alone, leaveRules, leaveRequest, leaving, leaveOf, grants, notice, ack, relinked, granting, onSetR, admitted, onSetRAck, onSetRNak, leftSet, onSetL, onKind, actOf, receiveRules, receiveOf}
@@ -48,6 +51,23 @@ node-facts count u h =
 pub node-fits : (count : ℕ) (u : Node) → NodeFits count u → nodeFits count u ≡ true
 unfolding nodeFits
 node-fits count u f = simp (f .key, f .left, f .right, f .links, f .seq)
+
+-- ---- the facts that the test of a message says
+pub record MessageFits (count : ℕ) (m : Message) : Type 0 where
+  pub sender : ltb (m .sender) count ≡ true
+  pub to : ltb (m .to) count ≡ true
+  pub kind : kindFits count (m .kind) ≡ true
+
+pub message-facts : (count : ℕ) (m : Message) → messageFits count m ≡ true → MessageFits count m
+unfolding messageFits
+message-facts count m h =
+    let (sender, a) = both (ltb (m .sender) count) _ h in
+    let (to, kind) = both (ltb (m .to) count) _ a in
+    record { sender = sender; to = to; kind = kind }
+
+pub message-fits : (count : ℕ) (m : Message) → ltb (m .sender) count ≡ true → ltb (m .to) count ≡ true → kindFits count (m .kind) ≡ true → messageFits count m ≡ true
+unfolding messageFits
+message-fits count m s t k = simp (s, t, k)
 
 -- ---- an effect fits: the node left behind, and each message posted
 abbrev pub PostsFit : ℕ → List Message → Type 0
@@ -85,36 +105,32 @@ second-is-enough : (p q r : Bool) → (p || (q && r)) ≡ true → (p || (true &
 second-is-enough true q r h = refl
 second-is-enough false q r h = both q r h .1
 
-message-fits : (count : ℕ) (m : Message) → ltb (m .sender) count ≡ true → ltb (m .to) count ≡ true → kindFits count (m .kind) ≡ true → messageFits count m ≡ true
-unfolding messageFits
-message-fits count m s t k = simp (s, t, k)
-
 -- ---- the nodes that a step leaves behind
 module _ {count : ℕ} {u : Node} (f : NodeFits count u) where
   -- a node that is not out has both links
   both-linked : isOut (u .status) ≡ false → (linked (u .left) ≡ true) × (linked (u .right) ≡ true)
   both-linked e = both (linked (u .left)) (linked (u .right)) (not-left (isOut (u .status)) _ e (f .links))
 
-  out-fits : NodeFits count (withStatus Out u)
+  pub out-fits : NodeFits count (withStatus Out u)
   out-fits = record { key = f .key; left = f .left; right = f .right; links = refl; seq = refl }
 
   -- a status of a node that has its links and its right number
-  status-fits : (s : Status) → isOut (u .status) ≡ false → numbered (u .rseq) ≡ true → NodeFits count (withStatus s u)
+  pub status-fits : (s : Status) → isOut (u .status) ≡ false → numbered (u .rseq) ≡ true → NodeFits count (withStatus s u)
   status-fits s e n =
       let (l, r) = both-linked e in
       record { key = f .key; left = f .left; right = f .right; links = or-right (isOut s) _ (rw l r); seq = or-right (not (isInOrDel s)) _ n }
 
-  admitted-fits : (number : ℕ) → isOut (u .status) ≡ false → NodeFits count (admitted u number)
+  pub admitted-fits : (number : ℕ) → isOut (u .status) ≡ false → NodeFits count (admitted u number)
   admitted-fits number e =
       let (l, r) = both-linked e in
       record { key = f .key; left = f .left; right = f .right; links = rw l r; seq = refl }
 
-  relinked-fits : (new number : ℕ) → ltb new count ≡ true → isOut (u .status) ≡ false → NodeFits count (relinked u new number)
+  pub relinked-fits : (new number : ℕ) → ltb new count ≡ true → isOut (u .status) ≡ false → NodeFits count (relinked u new number)
   relinked-fits new number h e =
       let (l, r) = both-linked e in
       record { key = f .key; left = f .left; right = h; links = or-right (isOut (u .status)) _ (rw l refl); seq = or-right (not (isInOrDel (u .status))) true refl }
 
-  left-set-fits : (left number : ℕ) → ltb left count ≡ true → NodeFits count (leftSet u left number)
+  pub left-set-fits : (left number : ℕ) → ltb left count ≡ true → NodeFits count (leftSet u left number)
   left-set-fits left number h =
       record { key = f .key; left = h; right = f .right; links = second-is-enough (isOut (u .status)) (linked (u .left)) (linked (u .right)) (f .links); seq = f .seq }
 
@@ -193,8 +209,61 @@ module _ (count me : ℕ) (me-in : ltb me count ≡ true) (u : Node) (f : NodeFi
     kind-fits (SetL left number) k = set-l-fits left number k
 
   pub receive-fits : (m : Message) → messageFits count m ≡ true → EffectFits count (receiveOf me u m)
-  unfolding receiveOf messageFits
+  unfolding receiveOf
   receive-fits m h =
-      let (s, a) = both (ltb (m .sender) count) _ h in
-      let (t, k) = both (ltb (m .to) count) _ a in
-      settled-fits f (first (receiveRules me u m)) (actOf me u (m .sender) (m .kind)) (λ clear. cond-fits (isOut (u .status)) _ _ (λ _. quiet-fits f Dropped) (λ _. kind-fits (m .sender) s (m .kind) k))
+      let facts = message-facts count m h in
+      settled-fits f (first (receiveRules me u m)) (actOf me u (m .sender) (m .kind)) (λ clear. cond-fits (isOut (u .status)) _ _ (λ _. quiet-fits f Dropped) (λ _. kind-fits (m .sender) (facts .sender) (m .kind) (facts .kind)))
+
+-- ---- what a node that fits has: its links unless it is out, its right number while it is in or del
+link-named : (l : Link) → linked l ≡ true → l ≡ To (target l)
+link-named Unlinked h = absurd (true-is-not-false h)
+link-named (To n) h = refl
+
+seq-named : (q : Seq) → numbered q ≡ true → q ≡ Is (seqOf q)
+seq-named Unset h = absurd (true-is-not-false h)
+seq-named (Is n) h = refl
+
+module _ {count : ℕ} {u : Node} (f : NodeFits count u) where
+  pub left-named : isOut (u .status) ≡ false → u .left ≡ To (target (u .left))
+  left-named e = link-named (u .left) (both-linked f e .0)
+
+  pub right-named : isOut (u .status) ≡ false → u .right ≡ To (target (u .right))
+  right-named e = link-named (u .right) (both-linked f e .1)
+
+  pub number-named : isInOrDel (u .status) ≡ true → u .rseq ≡ Is (seqOf (u .rseq))
+  number-named e = seq-named (u .rseq) (not-left (not (isInOrDel (u .status))) (numbered (u .rseq)) (ap not e) (f .seq))
+
+-- ---- what fits among some nodes fits among more
+module _ {count more : ℕ} (le : count ≤ more) where
+  number-fits-more : (n : ℕ) → ltb n count ≡ true → ltb n more ≡ true
+  number-fits-more n h = let k = ltb-true n count h in lt-ltb n more (omega arith)
+
+  link-fits-more : (l : Link) → linkFits count l ≡ true → linkFits more l ≡ true
+  link-fits-more Unlinked h = refl
+  link-fits-more (To n) h = number-fits-more n h
+
+  kind-fits-more : (kind : Kind) → kindFits count kind ≡ true → kindFits more kind ≡ true
+  kind-fits-more (SetR new expected number) h =
+      let (n, e) = both (ltb new count) (ltb expected count) h in
+      simp (number-fits-more new n, number-fits-more expected e)
+  kind-fits-more (SetRAck number) h = refl
+  kind-fits-more SetRNak h = refl
+  kind-fits-more (SetL left number) h = number-fits-more left h
+
+  pub fits-more : {u : Node} → NodeFits count u → NodeFits more u
+  fits-more {u} f = record { key = f .key; left = link-fits-more (u .left) (f .left); right = link-fits-more (u .right) (f .right); links = f .links; seq = f .seq }
+
+  pub message-fits-more : (m : Message) → messageFits count m ≡ true → messageFits more m ≡ true
+  message-fits-more m h =
+      let facts = message-facts count m h in
+      message-fits more m (number-fits-more (m .sender) (facts .sender)) (number-fits-more (m .to) (facts .to)) (kind-fits-more (m .kind) (facts .kind))
+
+-- ---- so among no more nodes than the limit a step gives no refusal 6
+module _ {count : ℕ} (few : count ≤ capacity) where
+  pub well-formed-among : (me : ℕ) {u : Node} → me < count → NodeFits count u → wellFormed me u ≡ true
+  unfolding wellFormed
+  well-formed-among me {u} h f = simp (lt-ltb me capacity (omega arith), node-fits capacity u (fits-more few f))
+
+  pub deliverable-among : (m : Message) → messageFits count m ≡ true → deliverable (m .to) m ≡ true
+  unfolding deliverable
+  deliverable-among m h = simp (eq-eqb (m .to) (m .to) refl, message-fits-more few m h)

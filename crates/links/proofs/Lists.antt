@@ -1,0 +1,100 @@
+-- Lists of nodes, nothing of links: where a member stands, what holds of every member, how many pass a test, and ascending lists with
+-- a node more or less. By induction on the list. Assumes nothing.
+use mathlib.Core.Path.{_≡_, refl, sym, ap}
+use mathlib.Core.Logic.{_⊎_, inl, inr, ⊎-elim, _↔_, _≢_}
+use mathlib.Core.Bool.{Bool, true, false}
+use mathlib.Core.List.{List, [], _∷_, _++_}
+use Prim.Native.Nat.{ℕ, _+_, _<_}
+use native.Mathlib.Omega.{arith}
+use lib.Dec.{T, eqb, eqb→eq, eqb-refl}
+use Rattle.links.specs.Walk.{bit, count, times}
+use Rattle.links.proofs.Ring.{_∈_, here, there, in-nil, in-cons, in-part, in-left, in-right, Ascending}
+
+-- ---- members
+pub cut : {s : ℕ} {l : List ℕ} → s ∈ l → (pre : List ℕ) × (post : List ℕ) × (l ≡ pre ++ s ∷ post)
+cut (here {xs = xs} e) = ([], xs, ap (λ x. x ∷ xs) (sym e))
+cut (there {x = x} i) = let (pre, post, e) = cut i in (x ∷ pre, post, ap (λ l. x ∷ l) e)
+
+pub each-nil : (P : ℕ → Type 0) (x : ℕ) → x ∈ [] → P x
+each-nil P x i = absurd (in-nil i)
+
+pub each-cons : (P : ℕ → Type 0) (a : ℕ) (l : List ℕ) → P a → ((x : ℕ) → x ∈ l → P x) → (x : ℕ) → x ∈ (a ∷ l) → P x
+each-cons P a l f g x i = ⊎-elim (λ (e : x ≡ a). rw e f) (g x) (in-cons i)
+
+pub each-append : (P : ℕ → Type 0) (l m : List ℕ) → ((x : ℕ) → x ∈ l → P x) → ((x : ℕ) → x ∈ m → P x) → (x : ℕ) → x ∈ (l ++ m) → P x
+each-append P l m f g x i = ⊎-elim (f x) (g x) (in-part l i)
+
+pub swapped : (l m : List ℕ) {x : ℕ} → x ∈ (l ++ m) → x ∈ (m ++ l)
+swapped l m i = ⊎-elim (in-right m) (in-left l) (in-part l i)
+
+-- m has the members of l, and u
+abbrev pub Adds : List ℕ → List ℕ → ℕ → Type 0
+Adds l m u = (x : ℕ) → (x ∈ m) ↔ ((x ∈ l) ⊎ (x ≡ u))
+
+pub adds-first : (l : List ℕ) (u : ℕ) → Adds l (u ∷ l) u
+adds-first l u x = (λ i. ⊎-elim inr inl (in-cons i), ⊎-elim there here)
+
+adds-within : (pre l m : List ℕ) (u : ℕ) → Adds l m u → Adds (pre ++ l) (pre ++ m) u
+adds-within pre l m u h x = (
+  λ i. ⊎-elim (λ j. inl (in-left l j)) (λ j. ⊎-elim (λ k. inl (in-right pre k)) inr (h x .0 j)) (in-part pre i),
+  ⊎-elim (λ i. ⊎-elim (in-left m) (λ j. in-right pre (h x .1 (inl j))) (in-part pre i)) (λ e. in-right pre (h x .1 (inr e))),
+)
+
+pub adds-between : (pre post : List ℕ) (u : ℕ) → Adds (pre ++ post) (pre ++ u ∷ post) u
+adds-between pre post u = adds-within pre post (u ∷ post) u (adds-first post u)
+
+pub adds-behind : (pre : List ℕ) (p : ℕ) (post : List ℕ) (u : ℕ) → Adds (pre ++ p ∷ post) (pre ++ p ∷ u ∷ post) u
+adds-behind pre p post u = adds-within pre (p ∷ post) (p ∷ u ∷ post) u (adds-between (p ∷ []) post u)
+
+-- ---- counts
+pub bit-yes : (b : Bool) → T b → bit b ≡ 1
+bit-yes true t = refl
+bit-yes false t = absurd t
+
+pub bit-no : (b : Bool) → ¬ T b → bit b ≡ 0
+bit-no true t = absurd (t tt)
+bit-no false t = refl
+
+count-append : (test : ℕ → Bool) (l m : List ℕ) → count test (l ++ m) ≡ count test l + count test m
+count-append test [] m = omega arith
+count-append test (x ∷ l) m = omega (arith, count-append test l m)
+
+pub count-swapped : (test : ℕ → Bool) (l m : List ℕ) → count test (l ++ m) ≡ count test (m ++ l)
+count-swapped test l m = omega (arith, count-append test l m, count-append test m l)
+
+pub never : (m : ℕ) (l : List ℕ) → ¬ (m ∈ l) → times m l ≡ 0
+never m [] n = refl
+never m (x ∷ l) n = omega (arith, bit-no (eqb m x) (λ t. n (here (eqb→eq m x t))), never m l (λ i. n (there i)))
+
+-- ---- ascending lists
+module _ (key : ℕ → ℕ) where
+  pub lower-differs : {a b : ℕ} → key a < key b → a ≢ b
+  lower-differs h e = let k = ap key e in omega arith
+
+  pub once : (m : ℕ) {L : List ℕ} → Ascending key L → m ∈ L → times m L ≡ 1
+  once m h (here {x = a} {xs = l} e) = rw e (omega (arith, bit-yes (eqb a a) (eqb-refl a), never a l (λ i. lower-differs (h .0 a i) refl)))
+  once m h (there {x = a} i) = omega (arith, bit-no (eqb m a) (λ t. lower-differs (h .0 m i) (sym (eqb→eq m a t))), once m (h .1) i)
+
+  pub ascending-from : (pre l : List ℕ) → Ascending key (pre ++ l) → Ascending key l
+  ascending-from [] l h = h
+  ascending-from (a ∷ pre) l h = ascending-from pre l (h .1)
+
+  pub lower-before : (pre : List ℕ) (s : ℕ) (post : List ℕ) → Ascending key (pre ++ s ∷ post) → (m : ℕ) → m ∈ pre → key m < key s
+  lower-before [] s post h = each-nil (λ m. key m < key s)
+  lower-before (a ∷ pre) s post h = each-cons (λ m. key m < key s) a pre (h .0 s (in-right pre (here refl))) (lower-before pre s post (h .1))
+
+  pub others-differ : (pre : List ℕ) (s : ℕ) (post : List ℕ) → Ascending key (pre ++ s ∷ post) → (m : ℕ) → m ∈ (post ++ pre) → m ≢ s
+  others-differ pre s post h =
+      let later : (m : ℕ) → m ∈ post → m ≢ s = λ m i e. lower-differs (ascending-from pre (s ∷ post) h .0 m i) (sym e) in
+      each-append (λ m. m ≢ s) post pre later (λ m i. lower-differs (lower-before pre s post h m i))
+
+  pub ascending-with : (pre : List ℕ) (p : ℕ) (post : List ℕ) (u : ℕ) → Ascending key (pre ++ p ∷ post) → key p < key u
+      → ((y : ℕ) → y ∈ post → key u < key y) → Ascending key (pre ++ p ∷ u ∷ post)
+  ascending-with [] p post u h lo hi = (each-cons (λ y. key p < key y) u post lo (h .0), (hi, h .1))
+  ascending-with (a ∷ pre) p post u h lo hi =
+      let k : key a < key u = omega (arith, h .0 p (in-right pre (here refl))) in
+      (λ y i. ⊎-elim (h .0 y) (λ (e : y ≡ u). rw e k) (adds-behind pre p post u y .0 i), ascending-with pre p post u (h .1) lo hi)
+
+  pub ascending-without : (pre : List ℕ) (u : ℕ) (post : List ℕ) → Ascending key (pre ++ u ∷ post) → Ascending key (pre ++ post)
+  ascending-without [] u post h = h .1
+  ascending-without (a ∷ pre) u post h = (λ y i. h .0 y (adds-between pre post u y .1 (inl i)), ascending-without pre u post (h .1))

@@ -1,0 +1,137 @@
+-- The invariant holds after the delivery of an answer: the node that waited for it is then in or out, and is inserted exactly if it was.
+-- Assumes nothing.
+use mathlib.Core.Path.{_≡_, refl, sym, ap, _∙_}
+use mathlib.Core.Logic.{_⊎_, inl, inr, ⊎-elim, _≢_}
+use mathlib.Core.Bool.{Bool, true, false, not}
+use mathlib.Core.List.{List}
+use Prim.Native.Nat.{ℕ}
+use native.Mathlib.Omega.{arith}
+use native.Mathlib.Decide.{ℕ-discrete}
+use borrow.Author.Tests.{eq-eqb, ne-eqb}
+use Rattle.truth.specs.Tests.{any}
+use Rattle.truth.proofs.TestLaws.{_∈_, not-both, any-in}
+use Rattle.node.specs.declared.Status.{Status}
+use Rattle.node.specs.declared.Status.the-variants.{Out, Ins, In, Del}
+use Rattle.node.specs.declared.Seq.the-variants.{Is}
+use Rattle.node.specs.declared.Node.{Node}
+use Rattle.node.specs.declared.Message.{Message}
+use Rattle.node.specs.Shape.{isOut, isIn}
+use Rattle.node.specs.Actions.{setR, setRAck, setRNak, setL, withStatus, admitted}
+use Rattle.protocol.specs.State.{isAckTo, isDealingOf, isNotice, isInserted}
+use Rattle.protocol.proofs.Facts.{Taken}
+use Rattle.protocol.proofs.Invariant.{Dealt, isMember, Member, Keeps, stored, coming, Invariant}
+use Rattle.protocol.proofs.Frames.{At, Settled, settled-in, settled-out, unchanged, apart, request-deals, ack-deals, nak-deals, only-dealing, no-ack, acks-left, member-same, request-same, keeps-same, left-same, SameRing, same-order}
+
+-- m is an answer to i, which then stands as x, settled, with the links and the left number it had
+module _ {N N′ : ℕ → Node} {M rest : List Message} {told joins : ℕ → Bool} {m : Message} {i : ℕ} {x : Node}
+    (dealt : Dealt N M) (inv : Invariant N M told joins) (t : Taken M m rest) (at : At N i x N′) where
+  answered : isDealingOf i m ≡ true → isNotice (m .kind) ≡ false → ((u : ℕ) → u ≢ i → isAckTo u m ≡ false)
+      → Settled (x .status) → x .key ≡ N i .key → x .right ≡ N i .right → x .left ≡ N i .left → x .lseq ≡ N i .lseq
+      → isMember N′ rest i ≡ isMember N M i → ((R : ℕ) → Member N M i → Keeps N′ rest i R → Keeps N M i R)
+      → Invariant N′ rest told joins
+  answered d not-notice elsewhere st key right left lseq own keep = record {
+    dealings = record {
+      joiners = λ u h. inv .dealings .joiners u (waited u Ins (st .0) h);
+      leavers = λ u h. inv .dealings .leavers u (waited u Del (st .1) h);
+      requests = λ v p new e n j. request-same (at .others v (not-own v p new e n j)) (keys p) (keys e) (inv .dealings .requests v p new e n (t .left _ j));
+      quiet = λ w u a n h f j. inv .dealings .quiet w u a n (waited u Ins (st .0) h) (sym (member u) ∙ f) (t .left _ j);
+    };
+    order = same-order (record {
+      member = member;
+      key = λ u _. keys u;
+      right = λ u _. unchanged at (λ (y : Node). y .right) right u;
+      keeps = λ v R mv k. keeps v R mv k (ℕ-discrete v i);
+      lefts = λ v u R _ k. left-same (unchanged at (λ (y : Node). y .lseq) lseq u) (unchanged at (λ (y : Node). y .left) left u) (λ w a n j. t .left _ j) (λ w a n j. notice w u a n j) k;
+    }) (inv .order);
+  }
+    where
+      keys : (u : ℕ) → N′ u .key ≡ N u .key
+      keys = unchanged at (λ (y : Node). y .key) key
+
+      waited : (u : ℕ) (s : Status) → x .status ≢ s → N′ u .status ≡ s → N u .status ≡ s
+      waited u s n h = go (ℕ-discrete u i)
+        where
+          go : Dec (u ≡ i) → N u .status ≡ s
+          go (yes e) = absurd (n (sym (ap (λ (y : Node). y .status) (at .self)) ∙ ap (λ u. N′ u .status) (sym e) ∙ h))
+          go (no e) = sym (ap (λ (y : Node). y .status) (at .others u e)) ∙ h
+
+      not-own : (v p new e n : ℕ) → setR v p new e n ∈ rest → v ≢ i
+      not-own v p new e n j same = not-both (request-deals v p new e n) (rw (← same) at (only-dealing dealt i t d j))
+
+      member : (u : ℕ) → isMember N′ rest u ≡ isMember N M u
+      member u = go (ℕ-discrete u i)
+        where
+          go : Dec (u ≡ i) → isMember N′ rest u ≡ isMember N M u
+          go (yes e) = rw e own
+          go (no e) = member-same (ap (λ (y : Node). y .status) (at .others u e)) (acks-left u t (elsewhere u e))
+
+      keeps : (v R : ℕ) → Member N M v → Keeps N′ rest v R → Dec (v ≡ i) → Keeps N M v R
+      keeps v R mv k (yes e) = rw e (keep R (rw e at mv) (rw e at k))
+      keeps v R mv k (no e) = keeps-same (ap (λ (y : Node). y .status) (at .others v e)) (ap (λ (y : Node). y .rseq) (at .others v e)) (λ w j. t .left _ j) k
+
+      notice : (w u a n : ℕ) → setL w u a n ∈ M → setL w u a n ∈ rest
+      notice w u a n j = ⊎-elim (λ e. absurd (apart (λ y. isNotice (y .kind)) refl not-notice e)) (λ k. k) (t .either _ j)
+
+-- ---- the four answers
+ack-elsewhere : (p i n u : ℕ) → u ≢ i → isAckTo u (setRAck p i n) ≡ false
+ack-elsewhere p i n u d = ne-eqb i u (λ e. d (sym e))
+
+module _ {N N′ : ℕ → Node} {M rest : List Message} {told joins : ℕ → Bool} {p i : ℕ} (dealt : Dealt N M) (inv : Invariant N M told joins) where
+  -- "SetRAck at ins: in, right number := its number": it was inserted from the grant on, with that number
+  pub joins-kept : (n : ℕ) → Taken M (setRAck p i n) rest → N i .status ≡ Ins → At N i (admitted (N i) n) N′ → Invariant N′ rest told joins
+  joins-kept n t ins at =
+      answered dealt inv t at (ack-deals p i n) refl (ack-elsewhere p i n) settled-in refl refl refl refl
+      (now ∙ sym before) keep
+    where
+      now : isMember N′ rest i ≡ true
+      now = ap (λ (y : Node). isInserted (y .status) (any (isAckTo i) rest)) (at .self)
+
+      before : isMember N M i ≡ true
+      before = member-same ins (any-in (isAckTo i) (t .waits) (eq-eqb i i refl))
+
+      keep : (R : ℕ) → Member N M i → Keeps N′ rest i R → Keeps N M i R
+      keep R _ (stored f e) =
+          let same : Is n ≡ Is R = sym (ap (λ (y : Node). y .rseq) (at .self)) ∙ e in
+          let r : n ≡ R = cc in
+          coming ins p (rw r at (t .waits))
+      keep R _ (coming h w j) = absurd (settled-in .0 (sym (ap (λ (y : Node). y .status) (at .self)) ∙ h))
+
+  -- "At del: out": it was no longer inserted from the grant on
+  pub goes-kept : (n : ℕ) → Taken M (setRAck p i n) rest → N i .status ≡ Del → At N i (withStatus Out (N i)) N′ → Invariant N′ rest told joins
+  goes-kept n t del at =
+      answered dealt inv t at (ack-deals p i n) refl (ack-elsewhere p i n) settled-out refl refl refl refl
+      (now ∙ sym before) (λ R m _. absurd (not-both m before))
+    where
+      now : isMember N′ rest i ≡ false
+      now = ap (λ (y : Node). isInserted (y .status) (any (isAckTo i) rest)) (at .self)
+
+      before : isMember N M i ≡ false
+      before = member-same del (any-in (isAckTo i) (t .waits) (eq-eqb i i refl))
+
+  -- "SetRNak at ins: out"
+  pub stays-out-kept : Taken M (setRNak p i) rest → N i .status ≡ Ins → At N i (withStatus Out (N i)) N′ → Invariant N′ rest told joins
+  stays-out-kept t ins at =
+      answered dealt inv t at (nak-deals p i) refl (λ u d. refl) settled-out refl refl refl refl
+      (now ∙ sym before) (λ R m _. absurd (not-both m before))
+    where
+      now : isMember N′ rest i ≡ false
+      now = ap (λ (y : Node). isInserted (y .status) (any (isAckTo i) rest)) (at .self)
+
+      before : isMember N M i ≡ false
+      before = member-same ins (no-ack dealt i t (nak-deals p i) refl)
+
+  -- "At del: in"
+  pub stays-in-kept : Taken M (setRNak p i) rest → N i .status ≡ Del → At N i (withStatus In (N i)) N′ → Invariant N′ rest told joins
+  stays-in-kept t del at =
+      answered dealt inv t at (nak-deals p i) refl (λ u d. refl) settled-in refl refl refl refl
+      (now ∙ sym before) keep
+    where
+      now : isMember N′ rest i ≡ true
+      now = ap (λ (y : Node). isInserted (y .status) (any (isAckTo i) rest)) (at .self)
+
+      before : isMember N M i ≡ true
+      before = member-same del (no-ack dealt i t (nak-deals p i) refl)
+
+      keep : (R : ℕ) → Member N M i → Keeps N′ rest i R → Keeps N M i R
+      keep R _ (stored f e) = stored (λ h. let d = sym del ∙ h in let z : _≡_ {A = ℕ} 0 1 = cc in omega arith) (sym (ap (λ (y : Node). y .rseq) (at .self)) ∙ e)
+      keep R _ (coming h w j) = absurd (settled-in .0 (sym (ap (λ (y : Node). y .status) (at .self)) ∙ h))

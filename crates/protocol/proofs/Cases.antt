@@ -1,0 +1,257 @@
+-- Every call on every network is one of the cases of `Change`. Where a rule refuses, it is the refusal; else no rule's condition holds,
+-- and the cleared rules and the network's well-formedness give the facts of the case, and the node's step its result. Assumes nothing.
+use mathlib.Core.Path.{_≡_, refl, sym, ap, subst}
+use mathlib.Core.Logic.{_≢_}
+use mathlib.Core.Bool.{Bool, true, false, not, _&&_, cond}
+use mathlib.Core.List.{List, [], _∷_, append-nil}
+use mathlib.Core.Option.{Option, none, some}
+use Prim.Native.Nat.{ℕ, _<_}
+use native.Mathlib.Omega.{arith}
+use lib.ListN.{length}
+use lib.Dec.{T, ltb, eqb}
+use borrow.Author.Tests.{ltb-true, eqb-true, eqb-false, eq-eqb, not-true, not-false}
+use Rattle.truth.proofs.Laws.{true-is-not-false, both, or-right}
+use Rattle.truth.proofs.TestLaws.{_∈_, not-both, count-in, below-at}
+use Rattle.refusal.specs.Rules.{Rule, _when_, first, settled}
+use Rattle.serial.specs.Serial.{inRange}
+use Rattle.interval.specs.Interval.{between}
+use Rattle.interval.proofs.Laws.{Between, between-iff}
+use Rattle.sequence.specs.Sequence.{newer}
+use Rattle.sequence.proofs.Laws.{capped-next}
+use Rattle.node.specs.declared.Status.{Status}
+use Rattle.node.specs.declared.Status.the-variants.{Out, Ins, In, Del}
+use Rattle.node.specs.declared.Link.{Link}
+use Rattle.node.specs.declared.Link.the-variants.{Unlinked, To}
+use Rattle.node.specs.declared.Node.{Node}
+use Rattle.node.specs.declared.Kind.{Kind}
+use Rattle.node.specs.declared.Kind.the-variants.{SetR, SetRAck, SetRNak, SetL}
+use Rattle.node.specs.declared.Message.{Message}
+use Rattle.node.specs.declared.Peer.{Peer}
+use Rattle.node.specs.Shape.{isOut, isIn, isInOrDel, messageFits, capacity}
+use Rattle.node.specs.Actions.{Effect, target, seqOf, linksTo, createRules as nodeCreateRules, creating as nodeCreating, createOf, joinRules, asking, joinOf, alone, leaveRules, leaving as nodeLeaving, leaveOf, grants, notice, ack, relinked, granting, onSetR, onSetRAck, onSetRNak, onSetL, onKind, actOf, receiveRules, receiveOf}
+use Rattle.node.proofs.ActionLaws.{Grant, granted}
+use Rattle.node.proofs.FitLaws.{NodeFits, left-named, right-named, number-named, well-formed-among, deliverable-among}
+use Rattle.protocol.specs.declared.Call.{Call}
+use Rattle.protocol.specs.declared.Call.the-variants.{Declare, Create, Join, Leave, Deliver}
+use Rattle.protocol.specs.State.{State, queueLimit, nodeAt, statusAt, keyAt, leftAt, rightAt, isRequest, isAnswer, isDealingOf, dealings, wellFormed}
+use Rattle.protocol.specs.Calls.{refused, commit, isFull, declareRules, declaring, createRules, creating, peerAt, joinCallRules, joining, leaveCallRules, leaving, messageAt, without, wouldGrant, deliverRules, receiving, delivering, rulesOf, effectOf, applyOf}
+use Rattle.protocol.proofs.Facts.{WellFormed, formed, taken}
+use Rattle.protocol.proofs.Changes.{Grants, Act, drops, lets-in, lets-go, denies, joins, goes, stays-out, stays-in, takes, ignores, Change, refuses, declares, creates, asks, goes-alone, leaves, delivers}
+
+-- ---- where no rule refuses, no condition holds
+abbrev Cleared : List Rule → Type 0
+Cleared [] = Unit {0}
+Cleared ((n when holds) ∷ rules) = (holds ≡ false) × Cleared rules
+
+cleared : (rules : List Rule) → first rules ≡ none → Cleared rules
+cleared [] e = tt
+cleared ((n when true) ∷ rules) e = let z : _≡_ {A = ℕ} 0 1 = cc in absurd (omega arith)
+cleared ((n when false) ∷ rules) e = (refl, cleared rules e)
+
+-- ---- what the tests say
+by-test : {A : Type 0} (P : A → Type 0) (b : Bool) (x y : A) → (b ≡ true → P x) → (b ≡ false → P y) → P (cond b x y)
+by-test P true x y f g = f refl
+by-test P false x y f g = g refl
+
+left-fails : (p q : Bool) → (p && q) ≡ false → q ≡ true → p ≡ false
+left-fails true q h e = absurd (not-both e h)
+left-fails false q h e = refl
+
+tested-below : (n m : ℕ) → not (ltb n m) ≡ false → n < m
+tested-below n m e = ltb-true n m (not-false (ltb n m) e)
+
+tested-between : (a b u : ℕ) → not (between a b u) ≡ false → Between a b u
+tested-between a b u e = between-iff a b u .0 (subst T (sym (not-false (between a b u) e)) tt)
+
+tested-out : (t : Status) → isOut t ≡ true → t ≡ Out
+tested-out Out h = refl
+tested-out Ins h = absurd (true-is-not-false h)
+tested-out In h = absurd (true-is-not-false h)
+tested-out Del h = absurd (true-is-not-false h)
+
+tested-in : (t : Status) → isIn t ≡ true → t ≡ In
+tested-in Out h = absurd (true-is-not-false h)
+tested-in Ins h = absurd (true-is-not-false h)
+tested-in In h = refl
+tested-in Del h = absurd (true-is-not-false h)
+
+tested-link : (l : Link) (n : ℕ) → linksTo l n ≡ true → l ≡ To n
+tested-link Unlinked n h = absurd (true-is-not-false h)
+tested-link (To m) n h = ap To (eqb-true m n h)
+
+-- ---- a node's step that its own rules do not refuse
+module _ (me : ℕ) (u : Node) where
+  create-accepted : Cleared (nodeCreateRules me u) → createOf me u ≡ nodeCreating me u
+  unfolding createOf
+  create-accepted (sound, (out, _)) = rw (sound, out)
+
+  join-accepted : (p q : Peer) → Cleared (joinRules me u p q) → joinOf me u p q ≡ asking me u p q
+  unfolding joinOf
+  join-accepted p q (sound, (out, (lies, _))) = rw (sound, out, lies)
+
+  leave-accepted : Cleared (leaveRules me u) → leaveOf me u ≡ nodeLeaving me u
+  unfolding leaveOf
+  leave-accepted (sound, (inside, (unspent, _))) = rw (sound, inside, unspent)
+
+  receive-accepted : (m : Message) → Cleared (receiveRules me u m) → receiveOf me u m ≡ actOf me u (m .sender) (m .kind)
+  unfolding receiveOf
+  receive-accepted m (sound, _) = rw sound
+
+-- ---- the calls
+declare-case : (s : State) (key : ℕ) → first (declareRules s key) ≡ none → Change s (Declare key) (declaring s key)
+declare-case s key clear =
+    let (_, (fits, (room, (new, _)))) = cleared (declareRules s key) clear in
+    let differs = below-at (length (s .nodes)) (λ v. not (eqb (keyAt s v) key)) (not-false _ new) in
+    declares key refl record {
+      in-range = not-false (inRange key) fits;
+      room = tested-below (length (s .nodes)) capacity room;
+      is-new = λ v h. eqb-false (keyAt s v) key (not-true _ (differs v h));
+    } refl
+
+create-case : (s : State) (u : ℕ) → first (createRules s u) ≡ none → Change s (Create u) (creating s u)
+create-case s u clear =
+    let (ok, (known, (out, (no-notice, _)))) = cleared (createRules s u) clear in
+    let w = formed s (not-false (wellFormed s) ok) in
+    let declared : u < length (s .nodes) = tested-below u _ known in
+    let all-out = below-at (length (s .nodes)) (λ v. isOut (statusAt s v)) (not-false _ out) in
+    let sound = well-formed-among (w .few-nodes) u declared (w .node u declared) in
+    creates u refl record {
+      declared = declared;
+      all-out = λ v h. tested-out (statusAt s v) (all-out v h);
+      no-notice = no-notice;
+    } (rw (create-accepted u (nodeAt s u) (ap not sound, (ap not (all-out u declared), tt)), append-nil))
+
+join-case : (s : State) (u p q : ℕ) → first (joinCallRules s u p q) ≡ none → Change s (Join u p q) (joining s u p q)
+join-case s u p q clear =
+    let (_, (known, (left, (right, (sound, (out, (lies, (no-notice, (room, _))))))))) = cleared (joinCallRules s u p q) clear in
+    asks u p q refl record {
+      declared = tested-below u _ known;
+      left-declared = tested-below p _ left;
+      right-declared = tested-below q _ right;
+      is-out = tested-out (statusAt s u) (not-false _ out);
+      between = tested-between (keyAt s p) (keyAt s q) (keyAt s u) lies;
+      no-notice = no-notice;
+      room = tested-below (length (s .messages)) queueLimit room;
+    } (rw (join-accepted u (nodeAt s u) (peerAt s p) (peerAt s q) (sound, (out, (lies, tt)))))
+
+leave-case : (s : State) (u : ℕ) → first (leaveCallRules s u) ≡ none → Change s (Leave u) (leaving s u)
+leave-case s u clear =
+    let (ok, (known, (sound, (inside, (unspent, (room, _)))))) = cleared (leaveCallRules s u) clear in
+    let declared : u < length (s .nodes) = tested-below u _ known in
+    let fits = formed s (not-false (wellFormed s) ok) .node u declared in
+    let is-in : statusAt s u ≡ In = tested-in (statusAt s u) (not-false _ inside) in
+    let right = right-named fits (ap isOut is-in) in
+    rw (leave-accepted u (nodeAt s u) (sound, (inside, (unspent, tt))))
+    (by-test (λ e. Change s (Leave u) (commit s u (s .messages) e)) (alone u (nodeAt s u)) _ _
+    (λ t. goes-alone u refl record { declared = declared; is-in = is-in; alone = tested-link (rightAt s u) u t } (rw append-nil))
+    (λ f. leaves u (target (leftAt s u)) (target (rightAt s u)) (seqOf (nodeAt s u .rseq)) refl record {
+      declared = declared;
+      is-in = is-in;
+      left = left-named fits (ap isOut is-in);
+      right = right;
+      not-alone = eqb-false (target (rightAt s u)) u (rw right at f);
+      number = number-named fits (ap isInOrDel is-in);
+      unspent = not-false _ (rw f at unspent);
+      room = tested-below (length (s .messages)) queueLimit (left-fails (isFull s) _ room (ap not f));
+    } refl))
+
+-- ---- deliver: what node p does with v's message, the rest still waiting
+module _ (s : State) (v p : ℕ) (rest : List Message) where
+  -- of a message of this kind, e is the effect in one of the cases
+  abbrev ActsBy : Kind → Effect → Type 0
+  ActsBy kind e = Act s (record { sender = v; to = p; kind = kind }) rest (commit s p rest e)
+
+  module _ {count : ℕ} (fits : NodeFits count (nodeAt s p)) (not-out : statusAt s p ≢ Out) where
+    grant-case : (new e n : ℕ) → Grant (nodeAt s p) v new e → length (s .messages) < queueLimit
+        → ActsBy (SetR new e n) (granting (relinked (nodeAt s p) new n) (notice p (nodeAt s p) v new n) (ack p (nodeAt s p) v))
+    grant-case new e n g room =
+        by-test (λ told. ActsBy (SetR new e n) (granting (relinked (nodeAt s p) new n) told (ack p (nodeAt s p) v))) (eqb new v) _ _
+        (λ t. lets-in v p e n _ (rw (eqb-true new v t)) facts (g .room t) (rw (eqb-true new v t, ap target (facts .right), capped-next _ (g .room t))))
+        (λ f. lets-go v p new e n _ refl (eqb-false new v f) facts refl)
+      where
+        facts : Grants s p e (seqOf (nodeAt s p .rseq))
+        facts =
+            let is-in : statusAt s p ≡ In = tested-in (statusAt s p) (g .is-in) in
+            record { is-in = is-in; right = tested-link (rightAt s p) e (g .right); number = number-named fits (ap isInOrDel is-in); room = room }
+
+    request-case : (new e n : ℕ) → (grants (nodeAt s p) v new e ≡ true → length (s .messages) < queueLimit) → ActsBy (SetR new e n) (onSetR p (nodeAt s p) v new e n)
+    request-case new e n room =
+        by-test (ActsBy (SetR new e n)) (grants (nodeAt s p) v new e) _ _
+        (λ g. grant-case new e n (granted (nodeAt s p) v new e g) (room g))
+        (λ _. denies v p new e n refl not-out refl)
+
+    ack-case : (n : ℕ) (t : Status) → statusAt s p ≡ t → t ≢ In → ActsBy (SetRAck n) (onSetRAck t (nodeAt s p) n)
+    ack-case n Out e not-in = drops e (rw append-nil)
+    ack-case n Ins e not-in = joins v p n refl e (rw append-nil)
+    ack-case n In e not-in = absurd (not-in refl)
+    ack-case n Del e not-in = goes v p n refl e (rw append-nil)
+
+    nak-case : (t : Status) → statusAt s p ≡ t → t ≢ In → ActsBy SetRNak (onSetRNak t (nodeAt s p))
+    nak-case Out e not-in = drops e (rw append-nil)
+    nak-case Ins e not-in = stays-out v p refl e (rw append-nil)
+    nak-case In e not-in = absurd (not-in refl)
+    nak-case Del e not-in = stays-in v p refl e (rw append-nil)
+
+    notice-case : (left n : ℕ) → ActsBy (SetL left n) (onSetL (nodeAt s p) left n)
+    notice-case left n =
+        by-test (ActsBy (SetL left n)) (newer n (nodeAt s p .lseq)) _ _
+        (λ t. takes v p left n refl not-out t (rw append-nil))
+        (λ f. ignores v p left n refl not-out f (rw append-nil))
+
+    kind-case : (kind : Kind) → (wouldGrant (nodeAt s p) v kind ≡ true → length (s .messages) < queueLimit) → (isAnswer kind ≡ true → statusAt s p ≢ In)
+        → ActsBy kind (onKind p (nodeAt s p) v kind)
+    kind-case (SetR new e n) room not-in = request-case new e n room
+    kind-case (SetRAck n) room not-in = ack-case n (statusAt s p) refl (not-in refl)
+    kind-case SetRNak room not-in = nak-case (statusAt s p) refl (not-in refl)
+    kind-case (SetL left n) room not-in = notice-case left n
+
+addressed : (count : ℕ) (m : Message) → messageFits count m ≡ true → m .to < count
+unfolding messageFits
+addressed count m h = ltb-true (m .to) count (both (ltb (m .to) count) _ (both (ltb (m .sender) count) _ h .1) .0)
+
+module _ (s : State) (w : WellFormed s) (m : Message) (waits : m ∈ s .messages) where
+  declared-addressee : m .to < length (s .nodes)
+  declared-addressee = addressed (length (s .nodes)) m (w .message m waits)
+
+  -- an answer is its addressee's one dealing, and a node that is in has none
+  answered-not-in : isAnswer (m .kind) ≡ true → statusAt s (m .to) ≢ In
+  answered-not-in answer is-in =
+      let own : isDealingOf (m .to) m ≡ true = or-right (isRequest (m .kind) && eqb (m .sender) (m .to)) _ (rw answer (eq-eqb (m .to) (m .to) refl)) in
+      omega (arith, count-in (isDealingOf (m .to)) waits own, w .dealing (m .to) declared-addressee, ap dealings is-in)
+
+  receive-case : (rest : List Message) → (wouldGrant (nodeAt s (m .to)) (m .sender) (m .kind) ≡ true → length (s .messages) < queueLimit)
+      → Act s m rest (commit s (m .to) rest (receiving s m))
+  receive-case rest room =
+      let fits = w .node (m .to) declared-addressee in
+      let sound = well-formed-among (w .few-nodes) (m .to) declared-addressee fits in
+      let deliverable = deliverable-among (w .few-nodes) m (w .message m waits) in
+      rw (receive-accepted (m .to) (nodeAt s (m .to)) m (rw (sound, deliverable), tt))
+      (by-test (ActsBy s (m .sender) (m .to) rest (m .kind)) (isOut (statusAt s (m .to))) _ _
+      (λ t. drops (tested-out (statusAt s (m .to)) t) (rw append-nil))
+      (λ f. kind-case s (m .sender) (m .to) rest fits (λ o. not-both (ap isOut o) f) (m .kind) room answered-not-in))
+
+deliver-case : (s : State) (place : ℕ) → first (deliverRules s place) ≡ none → Change s (Deliver place) (delivering s place)
+deliver-case s place clear =
+    let (ok, (room, (absent, _))) = cleared (deliverRules s place) clear in
+    let w = formed s (not-false (wellFormed s) ok) in
+    let present : ltb place (length (s .messages)) ≡ true = not-false _ absent in
+    let out = taken s place (ltb-true place _ present) in
+    delivers place (messageAt s place) (without place (s .messages)) refl record { at = refl; taken = out; declared = declared-addressee s w (messageAt s place) (out .waits) }
+    (receive-case s w (messageAt s place) (out .waits) (without place (s .messages))
+    (λ g. tested-below (length (s .messages)) queueLimit (left-fails (isFull s) _ room (rw present g))))
+
+-- ---- any call
+accepted-case : (s : State) (call : Call) → first (rulesOf s call) ≡ none → Change s call (effectOf s call)
+accepted-case s (Declare key) clear = declare-case s key clear
+accepted-case s (Create u) clear = create-case s u clear
+accepted-case s (Join u p q) clear = join-case s u p q clear
+accepted-case s (Leave u) clear = leave-case s u clear
+accepted-case s (Deliver place) clear = deliver-case s place clear
+
+pub change : (s : State) (call : Call) → Change s call (applyOf s call)
+unfolding applyOf
+change s call = go (first (rulesOf s call)) (accepted-case s call)
+  where
+    go : (o : Option ℕ) → (o ≡ none → Change s call (effectOf s call)) → Change s call (settled o (refused s) (effectOf s call))
+    go none accepted = accepted refl
+    go (some n) accepted = refuses n refl

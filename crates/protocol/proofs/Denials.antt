@@ -1,0 +1,82 @@
+-- The invariant holds after the delivery of a request that is denied, and of any message to a node that is out: no node changes, and of
+-- what waited nothing goes that the invariant speaks of. Assumes nothing.
+use mathlib.Core.Path.{_≡_, refl, sym, ap, _∙_}
+use mathlib.Core.Logic.{_⊎_, inl, inr, ⊎-elim, _≢_}
+use mathlib.Core.Bool.{Bool, true, false}
+use mathlib.Core.List.{List, [], _∷_, _++_, Memᴰ·append-left as in-left}
+use Prim.Native.Nat.{ℕ}
+use native.Mathlib.Omega.{arith}
+use borrow.Author.Tests.{eqb-true}
+use lib.Dec.{eqb}
+use Rattle.truth.specs.Tests.{any}
+use Rattle.truth.proofs.Laws.{both}
+use Rattle.truth.proofs.TestLaws.{_∈_, decided, not-both}
+use Rattle.node.specs.declared.Status.{Status}
+use Rattle.node.specs.declared.Status.the-variants.{Out, Ins}
+use Rattle.node.specs.declared.Kind.{Kind}
+use Rattle.node.specs.declared.Kind.the-variants.{SetR, SetRAck, SetRNak, SetL}
+use Rattle.node.specs.declared.Node.{Node}
+use Rattle.node.specs.declared.Message.{Message}
+use Rattle.node.specs.Actions.{setR, setRAck, setRNak, setL}
+use Rattle.protocol.specs.State.{isAck, isAckTo, isDealingOf, isNotice, isRequest, dealings, isInserted}
+use Rattle.protocol.proofs.Facts.{Taken}
+use Rattle.protocol.proofs.Invariant.{Dealt, isMember, Member, Invariant}
+use Rattle.protocol.proofs.Frames.{At, unchanged, apart, in-one, same-any, ack-dealing, no-dealing, acks-left, member-same, member-not-out, request-same, keeps-same, left-same, SameRing, same-order}
+
+-- SetRNak
+abbrev pub isDenial : Kind → Bool
+isDenial (SetR new expected number) = false
+isDenial (SetRAck number) = false
+isDenial SetRNak = true
+isDenial (SetL left number) = false
+
+-- no node changes; but for denials nothing comes, no acknowledgement goes, and no notice to a node that is not out
+pub unmoved : {N N′ : ℕ → Node} {M M′ : List Message} {told joins : ℕ → Bool} → Invariant N M told joins → ((u : ℕ) → N′ u ≡ N u)
+    → ((u : ℕ) → any (isAckTo u) M′ ≡ any (isAckTo u) M) → ((x : Message) → isDenial (x .kind) ≡ false → x ∈ M′ → x ∈ M)
+    → ((w u a n : ℕ) → N u .status ≢ Out → setL w u a n ∈ M → setL w u a n ∈ M′) → Invariant N′ M′ told joins
+unmoved {N} {N′} {M} {M′} inv same acks from to = record {
+  dealings = record {
+    joiners = λ u h. inv .dealings .joiners u (sym (status u) ∙ h);
+    leavers = λ u h. inv .dealings .leavers u (sym (status u) ∙ h);
+    requests = λ v p new e n j. request-same (same v) (keys p) (keys e) (inv .dealings .requests v p new e n (from _ refl j));
+    quiet = λ w u a n h f j. inv .dealings .quiet w u a n (sym (status u) ∙ h) (sym (member u) ∙ f) (from _ refl j);
+  };
+  order = same-order (record {
+    member = member;
+    key = λ u _. keys u;
+    right = λ u _. ap (λ (y : Node). y .right) (same u);
+    keeps = λ v R _ k. keeps-same (status v) (ap (λ (y : Node). y .rseq) (same v)) (λ w j. from _ refl j) k;
+    lefts = λ v u R mu k. left-same (ap (λ (y : Node). y .lseq) (same u)) (ap (λ (y : Node). y .left) (same u)) (λ w a n j. from _ refl j) (λ w a n j. to w u a n (member-not-out N M u mu) j) k;
+  }) (inv .order);
+}
+  where
+    status : (u : ℕ) → N′ u .status ≡ N u .status
+    status u = ap (λ (y : Node). y .status) (same u)
+
+    keys : (u : ℕ) → N′ u .key ≡ N u .key
+    keys u = ap (λ (y : Node). y .key) (same u)
+
+    member : (u : ℕ) → isMember N′ M′ u ≡ isMember N M u
+    member u = member-same (status u) (acks u)
+
+module _ {N N′ : ℕ → Node} {M rest : List Message} {told joins : ℕ → Bool} {i : ℕ} (inv : Invariant N M told joins) (at : At N i (N i) N′) where
+  -- "Not granted: post SetRNak to v."
+  pub denies-kept : (v p new e n : ℕ) → Taken M (setR v p new e n) rest → Invariant N′ (rest ++ setRNak p v ∷ []) told joins
+  denies-kept v p new e n t =
+      unmoved inv (unchanged at (λ y. y) refl)
+      (λ u. same-any (isAckTo u) _ rest (λ x a j. ⊎-elim (λ k. k) (λ d. absurd (apart (isAckTo u) a refl d)) (in-one rest j)) (λ x _ j. in-left _ j) ∙ acks-left u t refl)
+      (λ x f j. ⊎-elim (λ k. t .left x k) (λ d. absurd (apart (λ y. isDenial (y .kind)) refl f (sym d))) (in-one rest j))
+      (λ w u a k _ j. in-left _ (⊎-elim (λ d. absurd (apart (λ y. isNotice (y .kind)) refl refl d)) (λ l. l) (t .either _ j)))
+
+  -- "A bench that is out drops every message"
+  pub drops-kept : {m : Message} → Dealt N M → m .to ≡ i → N i .status ≡ Out → Taken M m rest → Invariant N′ rest told joins
+  drops-kept {m} dealt to out t = unmoved inv (unchanged at (λ y. y) refl) (λ u. acks-left u t (no-answer u)) (λ x _ j. t .left x j) notice
+    where
+      no-answer : (u : ℕ) → isAckTo u m ≡ false
+      no-answer u = ⊎-elim (λ a. absurd (not-both (ack-dealing u m a) (no-dealing dealt u (idle u a) (t .waits)))) (λ f. f) (decided (isAckTo u m))
+        where
+          idle : (u : ℕ) → isAckTo u m ≡ true → dealings (N u .status) ≡ 0
+          idle u a = ap (λ w. dealings (N w .status)) (sym (eqb-true (m .to) u (both (isAck (m .kind)) _ a .1)) ∙ to) ∙ ap dealings out
+
+      notice : (w u a n : ℕ) → N u .status ≢ Out → setL w u a n ∈ M → setL w u a n ∈ rest
+      notice w u a n d j = ⊎-elim (λ e. absurd (d (ap (λ k. N k .status) (ap (λ (y : Message). y .to) e ∙ to) ∙ out))) (λ k. k) (t .either _ j)

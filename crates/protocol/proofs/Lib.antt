@@ -1,0 +1,16 @@
+pub mod Facts
+pub mod Changes
+pub mod Cases
+pub mod Moves
+pub mod Kept
+pub mod Lively
+pub mod Invariant
+pub mod Frames
+pub mod Answers
+pub mod Denials
+pub mod Notices
+pub mod Orders
+pub mod Single
+pub mod Grants
+pub mod Theorem
+pub mod Example

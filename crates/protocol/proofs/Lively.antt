@@ -1,0 +1,236 @@
+-- Deliveries come to an end, and until then one is always to be had. A delivery that is not refused lowers the load: a request counts
+-- three and at most two messages come of it, any other message counts one and none comes of it. And where 64 messages wait some are not
+-- requests, since each of at most 32 nodes has at most one waiting; the delivery of such a one is not refused. Assumes nothing.
+use mathlib.Core.Path.{_≡_, refl, sym, ap}
+use mathlib.Core.Logic.{⊎-elim}
+use mathlib.Core.Bool.{Bool, true, false, not, _&&_, _||_, cond}
+use mathlib.Core.List.{List, [], _∷_, _++_, List·Memᴰ·head as here, List·Memᴰ·tail as there}
+use mathlib.Core.Option.{none}
+use Prim.Native.Nat.{ℕ, zero, suc, _+_, _*_, _≤_, _<_}
+use native.Mathlib.Omega.{arith}
+use native.Mathlib.Decide.{ℕ-discrete}
+use lib.ListN.{length, getD}
+use lib.Dec.{T, ltb}
+use borrow.Author.Tests.{ltb-true, ltb-false, lt-ltb, eq-eqb, not-true}
+use Rattle.truth.specs.Tests.{bit, count}
+use Rattle.truth.proofs.Laws.{true-is-not-false}
+use Rattle.truth.proofs.TestLaws.{decided, holds, is-true, count-append}
+use Rattle.refusal.specs.Rules.{first}
+use Rattle.sequence.specs.Sequence.{nextSeq, cappedNext, newer}
+use Rattle.node.specs.declared.Status.{Status}
+use Rattle.node.specs.declared.Status.the-variants.{Out, Ins, In, Del}
+use Rattle.node.specs.declared.Node.{Node}
+use Rattle.node.specs.declared.Kind.{Kind}
+use Rattle.node.specs.declared.Kind.the-variants.{SetR, SetRAck, SetRNak, SetL}
+use Rattle.node.specs.declared.Message.{Message}
+use Rattle.node.specs.Shape.{capacity, isOut, wellFormed as nodeIsSound, deliverable}
+use Rattle.node.specs.Actions.{Effect, setR, setRAck, setRNak, setL, grants, onSetRAck, onSetRNak, onKind, receiveOf}
+use Rattle.node.proofs.FitLaws.{message-facts, well-formed-among, deliverable-among}
+use Rattle.protocol.specs.declared.Call.{Call}
+use Rattle.protocol.specs.declared.Call.the-variants.{Deliver}
+use Rattle.protocol.specs.State.{State, queueLimit, nodeAt, statusAt, isRequest, isDealingOf, dealings, wellFormed}
+use Rattle.protocol.specs.Calls.{Result, stepped, isFull, messageAt, wouldGrant, isGrantable, deliverRules, applyOf}
+use Rattle.protocol.specs.History.{accepted}
+use Rattle.protocol.specs.Claim.{Delivers, delivered, load, Lively, SteadyClaim}
+use Rattle.protocol.proofs.Facts.{WellFormed, formed, tested, Taken, taken}
+use Rattle.protocol.proofs.Changes.{Act, drops, lets-in, lets-go, denies, joins, goes, stays-out, stays-in, takes, ignores}
+use Rattle.protocol.proofs.Changes.{Change, refuses, declares, creates, asks, goes-alone, leaves, delivers}
+use Rattle.protocol.proofs.Cases.{change}
+use Rattle.protocol.proofs.Moves.{AllFit}
+use Rattle.protocol.proofs.Kept.{kept}
+
+-- ---- the load, and how a delivery lowers it
+load-append : (l k : List Message) → load (l ++ k) ≡ load l + load k
+load-append l k = omega (arith, count-append (λ m. isRequest (m .kind)) l k, count-append (λ m. not (isRequest (m .kind))) l k)
+
+load-taken : {ms rest : List Message} {m : Message} → Taken ms m rest → load ms ≡ load (m ∷ []) + load rest
+load-taken t = omega (arith, t .counted (λ m. isRequest (m .kind)), t .counted (λ m. not (isRequest (m .kind))))
+
+some-load : (m : Message) → 1 ≤ load (m ∷ [])
+some-load m = go (isRequest (m .kind))
+  where
+    go : (b : Bool) → 1 ≤ 3 * (bit b + 0) + (bit (not b) + 0)
+    go true = omega arith
+    go false = omega arith
+
+-- a message goes and none comes
+gone : {ms rest : List Message} {m : Message} → Taken ms m rest → 1 + load rest ≤ load ms
+gone {m} t = omega (arith, load-taken t, some-load m)
+
+-- a request goes and these messages come
+replied : {ms rest : List Message} {v p new e n : ℕ} → Taken ms (setR v p new e n) rest → (posts : List Message) → load posts ≤ 2 → 1 + load (rest ++ posts) ≤ load ms
+replied {rest} t posts few = omega (arith, load-taken t, load-append rest posts)
+
+-- the load falls by one at least, or nothing was accepted and it does not rise
+abbrev Lowers : State → Result → Type 0
+Lowers s r = bit (accepted (r .said)) + load (r .state .messages) ≤ load (s .messages)
+
+act-lowers : {s : State} {m : Message} {rest : List Message} {r : Result} → Taken (s .messages) m rest → Act s m rest r → Lowers s r
+act-lowers t (drops e er) = rw er (gone t)
+act-lowers t (lets-in v p e n k em g room er) = rw er (replied (rw em at t) (setL p e v (nextSeq k) ∷ setRAck p v (nextSeq k) ∷ []) (omega arith))
+act-lowers t (lets-go v p new e n k em d g er) = rw er (replied (rw em at t) (setL p new p n ∷ setRAck p v (cappedNext k) ∷ []) (omega arith))
+act-lowers t (denies v p new e n em o er) = rw er (replied (rw em at t) (setRNak p v ∷ []) (omega arith))
+act-lowers t (joins p u n em e er) = rw er (gone t)
+act-lowers t (goes p u n em e er) = rw er (gone t)
+act-lowers t (stays-out p u em e er) = rw er (gone t)
+act-lowers t (stays-in p u em e er) = rw er (gone t)
+act-lowers t (takes p u a n em o new er) = rw er (gone t)
+act-lowers t (ignores p u a n em o old er) = rw er (gone t)
+
+deliver-lowers : {s : State} {call : Call} {place : ℕ} {r : Result} → call ≡ Deliver place → Change s call r → Lowers s r
+deliver-lowers e (refuses n er) = rw er (omega arith)
+deliver-lowers e (declares key ec h er) = let z : _≡_ {A = ℕ} 0 1 = cc in absurd (omega arith)
+deliver-lowers e (creates u ec h er) = let z : _≡_ {A = ℕ} 0 1 = cc in absurd (omega arith)
+deliver-lowers e (asks u p q ec h er) = let z : _≡_ {A = ℕ} 0 1 = cc in absurd (omega arith)
+deliver-lowers e (goes-alone u ec h er) = let z : _≡_ {A = ℕ} 0 1 = cc in absurd (omega arith)
+deliver-lowers e (leaves u p q n ec h er) = let z : _≡_ {A = ℕ} 0 1 = cc in absurd (omega arith)
+deliver-lowers e (delivers place m rest ec h act) = act-lowers (h .taken) act
+
+-- ---- the sum of f over the numbers below n
+abbrev total : (ℕ → ℕ) → ℕ → ℕ
+total f zero = 0
+total f (suc n) = total f n + f n
+
+total-one : (f : ℕ → ℕ) (n v : ℕ) → v < n → f v ≤ total f n
+total-one f zero v h = absurd (omega arith)
+total-one f (suc n) v h = go (total-one f n v) (ℕ-discrete v n)
+  where
+    go : (v < n → f v ≤ total f n) → Dec (v ≡ n) → f v ≤ total f n + f n
+    go before (yes e) = rw e (omega arith)
+    go before (no d) = omega (arith, before (omega arith))
+
+total-sum : (f g : ℕ → ℕ) (n : ℕ) → total (λ u. f u + g u) n ≡ total f n + total g n
+total-sum f g zero = omega arith
+total-sum f g (suc n) = omega (arith, total-sum f g n)
+
+total-most : (f : ℕ → ℕ) (n : ℕ) → ((u : ℕ) → u < n → f u ≤ 1) → total f n ≤ n
+total-most f zero h = omega arith
+total-most f (suc n) h = omega (arith, total-most f n (λ u k. h u (omega arith)), h n (omega arith))
+
+-- ---- each node has at most one request waiting, so there are no more requests than nodes
+request-is-dealing : (m : Message) → bit (isRequest (m .kind)) ≤ bit (isDealingOf (m .sender) m)
+request-is-dealing m = rw (eq-eqb (m .sender) (m .sender) refl) (go (isRequest (m .kind)) _)
+  where
+    go : (b c : Bool) → bit b ≤ bit ((b && true) || c)
+    go true c = omega arith
+    go false c = omega arith
+
+requests-are-dealings : (n : ℕ) (ms : List Message) → AllFit n ms → count (λ m. isRequest (m .kind)) ms ≤ total (λ u. count (isDealingOf u) ms) n
+requests-are-dealings n [] f = omega arith
+requests-are-dealings n (m ∷ ms) f =
+    let from = ltb-true (m .sender) n (message-facts n m (f m (here refl)) .sender) in
+    omega (
+      arith,
+      request-is-dealing m,
+      total-one (λ u. bit (isDealingOf u m)) n (m .sender) from,
+      total-sum (λ u. bit (isDealingOf u m)) (λ u. count (isDealingOf u) ms) n,
+      requests-are-dealings n ms (λ x i. f x (there i)),
+    )
+
+one-dealing : (status : Status) → dealings status ≤ 1
+one-dealing Out = omega arith
+one-dealing Ins = omega arith
+one-dealing In = omega arith
+one-dealing Del = omega arith
+
+few-requests : {s : State} → WellFormed s → count (λ m. isRequest (m .kind)) (s .messages) ≤ length (s .nodes)
+few-requests {s} w = omega (
+  arith,
+  requests-are-dealings (length (s .nodes)) (s .messages) (w .message),
+  total-most (λ u. count (isDealingOf u) (s .messages)) (length (s .nodes)) (λ u k. omega (arith, w .dealing u k, one-dealing (statusAt s u))),
+)
+
+-- ---- so of a full queue some message is not a request
+count-all : {A : Type 0} (test : A → Bool) (l : List A) → count test l + count (λ x. not (test x)) l ≡ length l
+count-all test [] = refl
+count-all test (x ∷ l) = omega (arith, count-all test l, one (test x))
+  where
+    one : (b : Bool) → bit b + bit (not b) ≡ 1
+    one true = refl
+    one false = refl
+
+abbrev Found : {A : Type 0} → (A → Bool) → List A → A → Type 0
+Found test l d = (place : ℕ) × (place < length l) × (test (getD l place d) ≡ true)
+
+found : {A : Type 0} (test : A → Bool) (l : List A) (d : A) → 1 ≤ count test l → Found test l d
+found test [] d h = absurd (omega arith)
+found test (x ∷ l) d h = go (test x) refl (found test l d)
+  where
+    go : (b : Bool) → test x ≡ b → (1 ≤ count test l → Found test l d) → Found test (x ∷ l) d
+    go true e later = (0, omega arith, e)
+    go false e later = let (place, waits, passes) = later (omega (arith, ap bit e)) in (suc place, omega arith, passes)
+
+-- ---- a node refuses no message but by rule 6
+abbrev acts : Effect → Bool
+acts e = accepted (stepped (e .said))
+
+acts-either : (b : Bool) (x y : Effect) → acts x ≡ true → acts y ≡ true → acts (cond b x y) ≡ true
+acts-either true x y f g = f
+acts-either false x y f g = g
+
+ack-acts : (status : Status) (u : Node) (number : ℕ) → acts (onSetRAck status u number) ≡ true
+ack-acts Out u number = refl
+ack-acts Ins u number = refl
+ack-acts In u number = refl
+ack-acts Del u number = refl
+
+nak-acts : (status : Status) (u : Node) → acts (onSetRNak status u) ≡ true
+nak-acts Out u = refl
+nak-acts Ins u = refl
+nak-acts In u = refl
+nak-acts Del u = refl
+
+kind-acts : (me : ℕ) (u : Node) (v : ℕ) (kind : Kind) → acts (onKind me u v kind) ≡ true
+kind-acts me u v (SetR new expected number) = acts-either (grants u v new expected) _ _ refl refl
+kind-acts me u v (SetRAck number) = ack-acts (u .status) u number
+kind-acts me u v SetRNak = nak-acts (u .status) u
+kind-acts me u v (SetL left number) = acts-either (newer number (u .lseq)) _ _ refl refl
+
+receives : (me : ℕ) (u : Node) (m : Message) → nodeIsSound me u ≡ true → deliverable me m ≡ true → acts (receiveOf me u m) ≡ true
+unfolding receiveOf
+receives me u m sound fits = rw (sound, fits) (acts-either (isOut (u .status)) _ _ refl (kind-acts me u (m .sender) (m .kind)))
+
+-- ---- on a well-formed network a delivery is refused by 28 and 29 alone
+not-refused : {s : State} {place : ℕ} → WellFormed s → place < length (s .messages) → (isFull s && isGrantable s place) ≡ false → Delivers s place
+unfolding applyOf
+not-refused {s} {place} w h room =
+    let m = messageAt s place in
+    let fits = w .message m (taken s place h .waits) in
+    let to = ltb-true (m .to) (length (s .nodes)) (message-facts (length (s .nodes)) m fits .to) in
+    let sound = well-formed-among (w .few-nodes) (m .to) to (w .node (m .to) to) in
+    let mine = deliverable-among (w .few-nodes) m fits in
+    let clear : first (deliverRules s place) ≡ none = rw (tested s w, lt-ltb place (length (s .messages)) h, room) in
+    rw (clear, receives (m .to) (nodeAt s (m .to)) m sound mine) tt
+
+not-grantable : (p : Node) (v : ℕ) (kind : Kind) → isRequest kind ≡ false → wouldGrant p v kind ≡ false
+not-grantable p v (SetR new expected number) h = absurd (true-is-not-false (sym h))
+not-grantable p v (SetRAck number) h = refl
+not-grantable p v SetRNak h = refl
+not-grantable p v (SetL left number) h = refl
+
+pub progress : (s : State) → WellFormed s → 0 < length (s .messages) → (place : ℕ) × Delivers s place
+progress s w h = ⊎-elim with-room full (decided (ltb (length (s .messages)) queueLimit))
+  where
+    with-room : ltb (length (s .messages)) queueLimit ≡ true → (place : ℕ) × Delivers s place
+    with-room room = (0, not-refused w h (rw room refl))
+
+    full : ltb (length (s .messages)) queueLimit ≡ false → (place : ℕ) × Delivers s place
+    full e =
+        let all = count-all (λ (m : Message). isRequest (m .kind)) (s .messages) in
+        let others : 1 ≤ count (λ m. not (isRequest (m .kind))) (s .messages) = omega (arith, all, few-requests w, w .few-nodes, ltb-false (length (s .messages)) queueLimit e) in
+        let (place, waits, other) = found (λ m. not (isRequest (m .kind))) (s .messages) (setRNak 0 0) others in
+        let m = messageAt s place in
+        (place, not-refused w waits (rw (e, not-grantable (nodeAt s (m .to)) (m .sender) (m .kind) (not-true _ other))))
+
+-- ---- so every well-formed network is steady
+pub bound : (s : State) (places : List ℕ) → delivered s places ≤ load (s .messages)
+bound s [] = omega arith
+bound s (place ∷ places) = omega (arith, deliver-lowers refl (change s (Deliver place)), bound (applyOf s (Deliver place) .state) places)
+
+pub lively : (s : State) → WellFormed s → Lively s
+lively s w = record { progress = progress s w; bound = bound s }
+
+pub steady : SteadyClaim
+steady s t =
+    let w = formed s (is-true (wellFormed s) t) in
+    record { kept = λ call. holds (tested _ (kept w (change s call))); lively = lively s w }

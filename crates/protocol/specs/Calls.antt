@@ -1,0 +1,168 @@
+-- The calls on a network: declare, create, join, leave, deliver. Each has its refusals in paper 01's order, as a list of rules, and its
+-- effect, which is that of one node's step: the node's rules are those of the crate `node`, and are not written a second time.
+-- Definitions only.
+use Prim.Native.Nat.{ℕ, suc}
+use mathlib.Core.Bool.{Bool, false, not, _&&_}
+use mathlib.Core.List.{List, [], _∷_, _++_}
+use lib.ListN.{length, getD, set, take, drop}
+use lib.Dec.{ltb, eqb}
+use Rattle.truth.specs.Tests.{everyBelow}
+use Rattle.refusal.specs.Rules.{Coded, done, no, Rule, _when_, ruled}
+use Rattle.serial.specs.Serial.{inRange}
+use Rattle.node.specs.declared.Node.{Node}
+use Rattle.node.specs.declared.Kind.{Kind}
+use Rattle.node.specs.declared.Kind.the-variants.{SetR, SetRAck, SetRNak, SetL}
+use Rattle.node.specs.declared.Message.{Message}
+use Rattle.node.specs.declared.Peer.{Peer}
+use Rattle.node.specs.declared.Outcome.{Outcome}
+use Rattle.node.specs.Shape.{declaredOf, isOut, capacity}
+use Rattle.node.specs.Actions.{Effect, setRNak, createOf, joinRules, joinOf, alone, leaveRules, leaveOf, grants, receiveOf}
+use Rattle.protocol.specs.declared.Call.{Call}
+use Rattle.protocol.specs.declared.Call.the-variants.{Declare, Create, Join, Leave, Deliver}
+use Rattle.protocol.specs.declared.Reply.{Reply}
+use Rattle.protocol.specs.declared.Reply.the-variants.{Declared, Stepped}
+use Rattle.protocol.specs.State.{State, queueLimit, declared, nodeAt, statusAt, keyAt, noticeWaits, wellFormed}
+
+-- ---- what a call comes to: the network left behind, and an answer or the number of a refusal
+pub record Result : Type 0 where
+  pub state : State
+  pub said : Coded Reply
+
+-- "It carries only its number; bench or floor come back equal, nothing is posted."
+abbrev pub refused : State → ℕ → Result
+refused s n = record { state = s; said = no n }
+
+-- what the network says of a node's step
+abbrev pub stepped : Coded Outcome → Coded Reply
+stepped (done o) = done (Stepped o)
+stepped (no n) = no n
+
+-- node u steps, while `messages` wait: it stands in its place as the step leaves it, and its posts are added at the end
+abbrev pub commit : State → ℕ → List Message → Effect → Result
+commit s u messages e = record { state = record { nodes = set (s .nodes) u (e .node); messages = messages ++ e .posts }; said = stepped (e .said) }
+
+abbrev pub isFull : State → Bool
+isFull s = not (ltb (length (s .messages)) queueLimit)
+
+-- ---- declare
+abbrev pub keyIsTaken : State → ℕ → Bool
+keyIsTaken s key = not (everyBelow (length (s .nodes)) (λ v. not (eqb (keyAt s v) key)))
+
+-- 20 "32 benches stand", 21 "key taken"
+abbrev pub declareRules : State → ℕ → List Rule
+declareRules s key =
+    (6 when not (wellFormed s))
+    ∷ (4 when not (inRange key))
+    ∷ (20 when not (ltb (length (s .nodes)) capacity))
+    ∷ (21 when keyIsTaken s key)
+    ∷ []
+
+-- "numbered from 0 as declared"
+abbrev pub declaring : State → ℕ → Result
+declaring s key = record {
+  state = record { nodes = s .nodes ++ (declaredOf key ∷ []); messages = s .messages };
+  said = done (Declared (length (s .nodes)) key);
+}
+
+-- ---- create
+abbrev pub allOut : State → Bool
+allOut s = everyBelow (length (s .nodes)) (λ v. isOut (statusAt s v))
+
+-- 22 "some bench is not out", 25 "a SetL to the bench waits"
+abbrev pub createRules : State → ℕ → List Rule
+createRules s u =
+    (6 when not (wellFormed s))
+    ∷ (5 when not (declared s u))
+    ∷ (22 when not (allOut s))
+    ∷ (25 when noticeWaits s u)
+    ∷ []
+
+abbrev pub creating : State → ℕ → Result
+creating s u = commit s u (s .messages) (createOf u (nodeAt s u))
+
+-- ---- join
+-- a neighbour, with its own key
+abbrev pub peerAt : State → ℕ → Peer
+peerAt s p = record { number = p; key = keyAt s p }
+
+-- 23 "bench not out" and 24 "key not in (left, right)" are the step's own; then 25, and 28 "64 messages wait"
+abbrev pub joinCallRules : State → ℕ → ℕ → ℕ → List Rule
+joinCallRules s u p q =
+    (6 when not (wellFormed s))
+    ∷ (5 when not (declared s u))
+    ∷ (5 when not (declared s p))
+    ∷ (5 when not (declared s q))
+    ∷ joinRules u (nodeAt s u) (peerAt s p) (peerAt s q)
+    ++ (25 when noticeWaits s u)
+    ∷ (28 when isFull s)
+    ∷ []
+
+abbrev pub joining : State → ℕ → ℕ → ℕ → Result
+joining s u p q = commit s u (s .messages) (joinOf u (nodeAt s u) (peerAt s p) (peerAt s q))
+
+-- ---- leave
+-- 26 "bench not in" and 27 "right number 65,535 and not alone" are the step's own; then 28 of "a leave that posts"
+abbrev pub leaveCallRules : State → ℕ → List Rule
+leaveCallRules s u =
+    (6 when not (wellFormed s))
+    ∷ (5 when not (declared s u))
+    ∷ leaveRules u (nodeAt s u)
+    ++ (28 when isFull s && not (alone u (nodeAt s u)))
+    ∷ []
+
+abbrev pub leaving : State → ℕ → Result
+leaving s u = commit s u (s .messages) (leaveOf u (nodeAt s u))
+
+-- ---- deliver
+-- past the last message: a place that 29 refuses
+abbrev pub messageAt : State → ℕ → Message
+messageAt s place = getD (s .messages) place (setRNak 0 0)
+
+-- "takes the message at a place, closes the gap"
+abbrev pub without : ℕ → List Message → List Message
+without place ms = take place ms ++ drop (suc place) ms
+
+-- "a SetR that would be granted"
+abbrev pub wouldGrant : Node → ℕ → Kind → Bool
+wouldGrant p v (SetR new expected number) = grants p v new expected
+wouldGrant p v (SetRAck number) = false
+wouldGrant p v SetRNak = false
+wouldGrant p v (SetL left number) = false
+
+-- whether the message at a place would be granted by the node it is for
+abbrev pub isGrantable : State → ℕ → Bool
+isGrantable s place = wouldGrant (nodeAt s (messageAt s place .to)) (messageAt s place .sender) (messageAt s place .kind)
+
+-- 28 "the delivery of a SetR that would be granted: 64 messages wait", 29 "no message at that place"
+abbrev pub deliverRules : State → ℕ → List Rule
+deliverRules s place =
+    (6 when not (wellFormed s))
+    ∷ (28 when isFull s && (ltb place (length (s .messages)) && isGrantable s place))
+    ∷ (29 when not (ltb place (length (s .messages))))
+    ∷ []
+
+abbrev pub receiving : State → Message → Effect
+receiving s m = receiveOf (m .to) (nodeAt s (m .to)) m
+
+-- "Delivery takes the message at a place, closes the gap, applies the action, and adds its posts at the end in the order named."
+abbrev pub delivering : State → ℕ → Result
+delivering s place = commit s (messageAt s place .to) (without place (s .messages)) (receiving s (messageAt s place))
+
+-- ---- any call
+abbrev pub rulesOf : State → Call → List Rule
+rulesOf s (Declare key) = declareRules s key
+rulesOf s (Create u) = createRules s u
+rulesOf s (Join u p q) = joinCallRules s u p q
+rulesOf s (Leave u) = leaveCallRules s u
+rulesOf s (Deliver place) = deliverRules s place
+
+abbrev pub effectOf : State → Call → Result
+effectOf s (Declare key) = declaring s key
+effectOf s (Create u) = creating s u
+effectOf s (Join u p q) = joining s u p q
+effectOf s (Leave u) = leaving s u
+effectOf s (Deliver place) = delivering s place
+
+-- "A refusal is given where its condition holds and no earlier one does, and at no other time."
+unfoldable pub applyOf : State → Call → Result
+applyOf s call = ruled (rulesOf s call) (refused s) (effectOf s call)

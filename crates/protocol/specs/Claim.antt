@@ -1,0 +1,68 @@
+-- The claim of demand 3: what holds after any list of calls from the empty network. It is stated here in full, and cites no proof.
+-- Definitions only.
+use Prim.Native.Nat.{ℕ, _+_, _*_, _<_, _≤_}
+use mathlib.Core.Path.{_≡_}
+use mathlib.Core.Bool.{false, not}
+use mathlib.Core.List.{List, [], _∷_}
+use lib.ListN.{length}
+use lib.Dec.{T}
+use Rattle.truth.specs.Tests.{bit, count}
+use Rattle.links.specs.Walk.{Circuit, Predecessor}
+use Rattle.node.specs.declared.Link.the-variants.{To}
+use Rattle.node.specs.declared.Message.{Message}
+use Rattle.protocol.specs.declared.Call.{Call}
+use Rattle.protocol.specs.declared.Call.the-variants.{Deliver}
+use Rattle.protocol.specs.State.{State, keyAt, leftAt, rightAt, isRequest, noticeWaits, wellFormed, inserted}
+use Rattle.protocol.specs.Calls.{applyOf}
+use Rattle.protocol.specs.History.{accepted, History, history}
+
+abbrev pub Inserted : State → ℕ → Type 0
+Inserted s u = T (inserted s u)
+
+-- ---- deliveries
+-- a delivery at this place is not refused
+abbrev pub Delivers : State → ℕ → Type 0
+Delivers s place = T (accepted (applyOf s (Deliver place) .said))
+
+-- of deliveries at these places, one after the other, how many are not refused
+abbrev pub delivered : State → List ℕ → ℕ
+delivered s [] = 0
+delivered s (place ∷ places) = bit (accepted (applyOf s (Deliver place) .said)) + delivered (applyOf s (Deliver place) .state) places
+
+-- three for each SetR and one for each other message
+abbrev pub load : List Message → ℕ
+load ms = 3 * count (λ m. isRequest (m .kind)) ms + count (λ m. not (isRequest (m .kind))) ms
+
+-- ---- what holds of every well-formed network, ring or not
+pub record Lively (s : State) : Type 0 where
+  -- while a message waits, a delivery at some place is not refused
+  pub progress : 0 < length (s .messages) → (place : ℕ) × Delivers s place
+  -- of any deliveries that may follow, at whichever places, no more than the load are not refused
+  pub bound : (places : List ℕ) → delivered s places ≤ load (s .messages)
+
+-- each call leaves a well-formed network, and such a network is lively
+pub record Steady (s : State) : Type 0 where
+  pub kept : (call : Call) → T (wellFormed (applyOf s call .state))
+  pub lively : Lively s
+
+abbrev pub SteadyClaim : Type 0
+SteadyClaim = (s : State) → T (wellFormed s) → Steady s
+
+-- ---- what holds after a list of calls
+pub record Sound (h : History) : Type 0 where
+  pub well-formed : T (wellFormed (h .state))
+  -- who is inserted by the calls and their outcomes is who is inserted by the definition under "Between"
+  pub told : (u : ℕ) → h .told u ≡ inserted (h .state) u
+  -- from each inserted node the right links lead once through each inserted node, through no other, and home; the key rises at every
+  -- move but one; a lone node moves to itself
+  pub circuit : (u : ℕ) → Inserted (h .state) u → Circuit (keyAt (h .state)) (rightAt (h .state)) (Inserted (h .state)) u
+  -- just one inserted node has a right link to each
+  pub predecessor : (u : ℕ) → Inserted (h .state) u → Predecessor (rightAt (h .state)) (Inserted (h .state)) u
+  -- and where no SetL to a node waits, its left link names that one
+  pub left : (u p : ℕ) → Inserted (h .state) u → noticeWaits (h .state) u ≡ false
+      → Inserted (h .state) p → rightAt (h .state) p ≡ To u → leftAt (h .state) u ≡ To p
+  pub lively : Lively (h .state)
+
+-- for every list of calls, of any arguments
+abbrev pub RingClaim : Type 0
+RingClaim = (calls : List Call) → Sound (history calls)

@@ -1,0 +1,132 @@
+-- A network as the lists of its nodes and of its waiting messages (paper 01: a "floor"), when it is well formed ("in shape"), and which
+-- of its nodes are inserted. The lists may have any length; the limits are clauses of well-formedness. Definitions only.
+use Prim.Native.Nat.{ℕ}
+use mathlib.Core.Bool.{Bool, true, false, not, _&&_, _||_}
+use mathlib.Core.List.{List, [], _∷_}
+use lib.ListN.{length, getD}
+use lib.Dec.{ltb, leb, eqb}
+use Rattle.truth.specs.Tests.{count, any, every, everyBelow}
+use Rattle.node.specs.declared.Status.{Status}
+use Rattle.node.specs.declared.Status.the-variants.{Out, Ins, In, Del}
+use Rattle.node.specs.declared.Link.{Link}
+use Rattle.node.specs.declared.Node.{Node}
+use Rattle.node.specs.declared.Kind.{Kind}
+use Rattle.node.specs.declared.Kind.the-variants.{SetR, SetRAck, SetRNak, SetL}
+use Rattle.node.specs.declared.Message.{Message}
+use Rattle.node.specs.Shape.{declaredOf, capacity, nodeFits, messageFits}
+
+-- a node's number is its place among the nodes; messages stand in the order posted
+pub record State : Type 0 where
+  pub nodes : List Node
+  pub messages : List Message
+
+-- "A cleared floor has neither."
+abbrev pub empty : State
+empty = record { nodes = []; messages = [] }
+
+-- "up to 64 messages on the way"; the limit of nodes is the single step's `capacity`
+abbrev pub queueLimit : ℕ
+queueLimit = 64
+
+abbrev pub declared : State → ℕ → Bool
+declared s u = ltb u (length (s .nodes))
+
+-- the node of a number; past the last one, a node that is out and has no links
+abbrev pub nodeAt : State → ℕ → Node
+nodeAt s u = getD (s .nodes) u (declaredOf 0)
+
+abbrev pub statusAt : State → ℕ → Status
+statusAt s u = nodeAt s u .status
+
+abbrev pub keyAt : State → ℕ → ℕ
+keyAt s u = nodeAt s u .key
+
+abbrev pub leftAt : State → ℕ → Link
+leftAt s u = nodeAt s u .left
+
+abbrev pub rightAt : State → ℕ → Link
+rightAt s u = nodeAt s u .right
+
+-- ---- whom a message concerns
+-- "A request is a SetR, of a joiner or a leaver"
+abbrev pub isRequest : Kind → Bool
+isRequest (SetR new expected number) = true
+isRequest (SetRAck number) = false
+isRequest SetRNak = false
+isRequest (SetL left number) = false
+
+abbrev pub isAck : Kind → Bool
+isAck (SetR new expected number) = false
+isAck (SetRAck number) = true
+isAck SetRNak = false
+isAck (SetL left number) = false
+
+-- "answers SetRAck(number) and SetRNak"
+abbrev pub isAnswer : Kind → Bool
+isAnswer (SetR new expected number) = false
+isAnswer (SetRAck number) = true
+isAnswer SetRNak = true
+isAnswer (SetL left number) = false
+
+abbrev pub isNotice : Kind → Bool
+isNotice (SetR new expected number) = false
+isNotice (SetRAck number) = false
+isNotice SetRNak = false
+isNotice (SetL left number) = true
+
+abbrev pub isAckTo : ℕ → Message → Bool
+isAckTo u m = isAck (m .kind) && eqb (m .to) u
+
+-- "the left notice of a bench is a SetL addressed to it"
+abbrev pub isNoticeTo : ℕ → Message → Bool
+isNoticeTo u m = isNotice (m .kind) && eqb (m .to) u
+
+-- "SetR from it or answer to it"
+abbrev pub isDealingOf : ℕ → Message → Bool
+isDealingOf u m = (isRequest (m .kind) && eqb (m .sender) u) || (isAnswer (m .kind) && eqb (m .to) u)
+
+abbrev pub ackWaits : State → ℕ → Bool
+ackWaits s u = any (isAckTo u) (s .messages)
+
+abbrev pub noticeWaits : State → ℕ → Bool
+noticeWaits s u = any (isNoticeTo u) (s .messages)
+
+-- ---- well-formedness
+-- "keys differ": from the keys of all nodes before it
+abbrev pub keyIsNew : State → ℕ → Bool
+keyIsNew s u = everyBelow u (λ v. not (eqb (keyAt s v) (keyAt s u)))
+
+-- "at most one .. and one only while it is ins or del"
+abbrev pub dealings : Status → ℕ
+dealings Out = 0
+dealings Ins = 1
+dealings In = 0
+dealings Del = 1
+
+-- what is asked of one node: that it fits among the nodes declared (its key in range, its links declared, both there unless it is
+-- out, a right number while it is in or del), that its key is its own, and that it has no more dealings than its status allows
+abbrev pub nodeIsWellFormed : State → ℕ → Bool
+nodeIsWellFormed s u =
+    nodeFits (length (s .nodes)) (nodeAt s u)
+    && (keyIsNew s u
+    && leb (count (isDealingOf u) (s .messages)) (dealings (statusAt s u)))
+
+-- "counts are within limits; .. keys differ and are in range; bench numbers in links and messages are declared; .. a bench not out has
+-- both links; a bench in or del has a right number; each bench has at most one SetR from it or answer to it waiting, and one only
+-- while it is ins or del. Links need not form a ring". Numbers are at most 65,535 by their type, and what lies past the counts is
+-- no part of these lists.
+unfoldable pub wellFormed : State → Bool
+wellFormed s =
+    (leb (length (s .nodes)) capacity && leb (length (s .messages)) queueLimit)
+    && (everyBelow (length (s .nodes)) (nodeIsWellFormed s)
+    && every (messageFits (length (s .nodes))) (s .messages))
+
+-- ---- "A bench is inserted if it is in; or ins with a SetRAck to it waiting; or del with none waiting"
+abbrev pub isInserted : Status → Bool → Bool
+isInserted Out acknowledged = false
+isInserted Ins acknowledged = acknowledged
+isInserted In acknowledged = true
+isInserted Del acknowledged = not acknowledged
+
+unfoldable pub inserted : State → ℕ → Bool
+inserted s u = isInserted (statusAt s u) (ackWaits s u)

@@ -1,0 +1,100 @@
+-- What the tests over a list, and over the numbers below a bound, say of each member: by going through the list. Assumes nothing.
+use mathlib.Core.Path.{_≡_, refl, ap, _∙_}
+use mathlib.Core.Logic.{_⊎_, inl, inr, ⊎-elim}
+use mathlib.Core.Bool.{Bool, true, false, not, _&&_, _||_}
+use mathlib.Core.List.{List, [], _∷_, _++_, List·Memᴰ, List·Memᴰ·head as here, List·Memᴰ·tail as there, List·Memᴰ·not-nil as in-nil}
+use Prim.Native.Nat.{ℕ, zero, suc, _+_, _≤_, _<_}
+use native.Mathlib.Omega.{arith}
+use native.Mathlib.Decide.{ℕ-discrete}
+use lib.Dec.{T}
+use Rattle.truth.specs.Tests.{bit, count, any, every, everyBelow}
+use Rattle.truth.proofs.Laws.{true-is-not-false, both, or-right}
+
+-- x is one of l
+infix 4 _∈_
+abbrev pub _∈_ : {A : Type 0} → A → List A → Type 0
+x ∈ l = List·Memᴰ x l
+
+-- ---- one test
+pub decided : (b : Bool) → (b ≡ true) ⊎ (b ≡ false)
+decided true = inl refl
+decided false = inr refl
+
+pub holds : {b : Bool} → b ≡ true → T b
+holds e = rw e tt
+
+pub is-true : (b : Bool) → T b → b ≡ true
+is-true true t = refl
+is-true false t = absurd t
+
+pub is-false : (b : Bool) → ¬ T b → b ≡ false
+is-false true n = absurd (n tt)
+is-false false n = refl
+
+pub not-both : {b : Bool} → b ≡ true → b ≡ false → ⊥
+not-both e f = true-is-not-false (rw f at e)
+
+pub neither : (p q : Bool) → (p || q) ≡ false → (p ≡ false) × (q ≡ false)
+neither true q h = absurd (not-both refl h)
+neither false q h = (refl, h)
+
+pub bit-true : {b : Bool} → b ≡ true → bit b ≡ 1
+bit-true e = rw e
+
+pub bit-false : {b : Bool} → b ≡ false → bit b ≡ 0
+bit-false e = rw e
+
+-- ---- the members of a list
+module _ {A : Type 0} (test : A → Bool) where
+  pub any-in : {l : List A} {x : A} → x ∈ l → test x ≡ true → any test l ≡ true
+  any-in (here {xs = l} e) t = rw (← e, t)
+  any-in (there {x = y} {xs = l} i) t = or-right (test y) (any test l) (any-in i t)
+
+  pub none-in : {l : List A} {x : A} → any test l ≡ false → x ∈ l → test x ≡ false
+  none-in {x} n i = ⊎-elim (λ t. absurd (not-both (any-in i t) n)) (λ f. f) (decided (test x))
+
+  pub some-in : (l : List A) → any test l ≡ true → (x : A) × (x ∈ l) × (test x ≡ true)
+  some-in [] t = absurd (true-is-not-false t)
+  some-in (x ∷ l) t = go (test x) refl t (some-in l)
+    where
+      go : (b : Bool) → test x ≡ b → (b || any test l) ≡ true → (any test l ≡ true → (y : A) × (y ∈ l) × (test y ≡ true)) → (y : A) × (y ∈ (x ∷ l)) × (test y ≡ true)
+      go true e t later = (x, here refl, e)
+      go false e t later = let (y, i, f) = later t in (y, there i, f)
+
+  pub not-any : (l : List A) → ((x : A) → x ∈ l → test x ≡ false) → any test l ≡ false
+  not-any [] f = refl
+  not-any (x ∷ l) f = rw (f x (here refl)) (not-any l (λ y i. f y (there i)))
+
+  pub every-in : {l : List A} {x : A} → every test l ≡ true → x ∈ l → test x ≡ true
+  every-in h (here {x = y} {xs = l} e) = ap test e ∙ both (test y) (every test l) h .0
+  every-in h (there {x = y} {xs = l} i) = every-in (both (test y) (every test l) h .1) i
+
+  pub all-pass : (l : List A) → ((x : A) → x ∈ l → test x ≡ true) → every test l ≡ true
+  all-pass [] f = refl
+  all-pass (x ∷ l) f = rw (f x (here refl)) (all-pass l (λ y i. f y (there i)))
+
+  pub count-append : (l m : List A) → count test (l ++ m) ≡ count test l + count test m
+  count-append [] m = omega arith
+  count-append (x ∷ l) m = omega (arith, count-append l m)
+
+  pub count-in : {l : List A} {x : A} → x ∈ l → test x ≡ true → 1 ≤ count test l
+  count-in (here {x = y} e) t = omega (arith, bit-true (rw e at t))
+  count-in (there i) t = omega (arith, count-in i t)
+
+  pub none-counted : {l : List A} {x : A} → count test l ≡ 0 → x ∈ l → test x ≡ false
+  none-counted {x} n i = ⊎-elim (λ t. absurd (omega (arith, count-in i t))) (λ f. f) (decided (test x))
+
+-- ---- the numbers below a bound
+pub below-at : (n : ℕ) (test : ℕ → Bool) → everyBelow n test ≡ true → (i : ℕ) → i < n → test i ≡ true
+below-at zero test h i k = absurd (omega arith)
+below-at (suc n) test h i k =
+    let (f, g) = both (everyBelow n test) (test n) h in
+    go g (below-at n test f i) (ℕ-discrete i n)
+  where
+    go : test n ≡ true → (i < n → test i ≡ true) → Dec (i ≡ n) → test i ≡ true
+    go g before (yes e) = rw e g
+    go g before (no d) = before (omega arith)
+
+pub below-all : (n : ℕ) (test : ℕ → Bool) → ((i : ℕ) → i < n → test i ≡ true) → everyBelow n test ≡ true
+below-all zero test f = refl
+below-all (suc n) test f = rw (below-all n test (λ i k. f i (omega arith))) (f n (omega arith))

@@ -1,0 +1,28 @@
+-- Tests over the members of a list, and over the numbers below a bound. Definitions only.
+use Prim.Native.Nat.{ℕ, zero, suc, _+_}
+use mathlib.Core.Bool.{Bool, true, false, _&&_, _||_}
+use mathlib.Core.List.{List, [], _∷_}
+
+abbrev pub bit : Bool → ℕ
+bit true = 1
+bit false = 0
+
+-- how many of l pass the test
+abbrev pub count : {A : Type 0} → (A → Bool) → List A → ℕ
+count test [] = 0
+count test (x ∷ l) = bit (test x) + count test l
+
+-- whether some member of l passes
+abbrev pub any : {A : Type 0} → (A → Bool) → List A → Bool
+any test [] = false
+any test (x ∷ l) = test x || any test l
+
+-- whether every member of l passes
+abbrev pub every : {A : Type 0} → (A → Bool) → List A → Bool
+every test [] = true
+every test (x ∷ l) = test x && every test l
+
+-- whether every number below n passes
+abbrev pub everyBelow : ℕ → (ℕ → Bool) → Bool
+everyBelow zero test = true
+everyBelow (suc n) test = everyBelow n test && test n
