@@ -8,7 +8,8 @@ use native.Mathlib.Omega.{arith}
 use Rattle.interval.proofs.Laws.{Between, inside, above, below}
 use Rattle.node.specs.declared.Link.{Link}
 use Rattle.node.specs.declared.Link.the-variants.{To}
-use Rattle.links.proofs.Ring.{_∈_, here, there, in-right, Ascending, first, Trail, Links, Ring, With, Without}
+use Rattle.truth.proofs.TestLaws.{_∈_}
+use Rattle.links.proofs.Ring.{here, there, in-right, Ascending, first, Trail, Links, Ring, With, Without}
 use Rattle.links.proofs.Lists.{cut, each-nil, each-cons, swapped, adds-first, adds-between, adds-behind}
 use Rattle.links.proofs.Lists.{ascending-from, ascending-with, ascending-without, others-differ}
 use Rattle.links.proofs.Trails.{first-append, same-end, rotate, trail-kept}

@@ -7,12 +7,14 @@ use mathlib.Core.List.{List, [], _∷_, _++_}
 use Prim.Native.Nat.{ℕ, _≤_}
 use native.Mathlib.Omega.{arith}
 use lib.ListN.{length}
-use lib.Dec.{leb, leb→le, le→leb}
+use borrow.Author.Tests.{le-leb, lt-leb}
 use Rattle.node.specs.declared.Link.{Link}
 use Rattle.node.specs.declared.Link.the-variants.{To}
-use Rattle.links.specs.Walk.{move, walk, count, falls, Circuit, Predecessor}
-use Rattle.links.proofs.Ring.{_∈_, here, there, in-nil, in-one, Ascending, first, Trail, Ring}
-use Rattle.links.proofs.Lists.{cut, each-cons, swapped, bit-yes, bit-no, count-swapped, never, once, others-differ}
+use Rattle.truth.specs.Tests.{count}
+use Rattle.truth.proofs.TestLaws.{_∈_, bit-true, bit-false}
+use Rattle.links.specs.Walk.{move, walk, falls, Circuit, Predecessor}
+use Rattle.links.proofs.Ring.{here, there, in-nil, in-one, Ascending, first, Trail, Ring}
+use Rattle.links.proofs.Lists.{cut, each-cons, swapped, count-swapped, never, once, others-differ}
 use Rattle.links.proofs.Trails.{same-end, rotate, move-to, walk-along, after-trail, trail-kept}
 
 -- ---- making and keeping rings
@@ -79,13 +81,13 @@ falls-last : (key : ℕ → ℕ) (right : ℕ → Link) (a : ℕ) (l : List ℕ)
     → key z ≤ key a → falls key right (a ∷ l) ≡ 1
 falls-last key right a [] z asc h low =
     let e = ap key (move-to right (h .0)) in
-    omega (arith, bit-yes (leb (key (move right a)) (key a)) (le→leb (key (move right a)) (key a) (omega arith)))
+    omega (arith, bit-true (le-leb (key (move right a)) (key a) (omega arith)))
 falls-last key right a (b ∷ l) z asc h low =
     let e = ap key (move-to right (h .0)) in
     let up = asc .0 b (here refl) in
     omega (
       arith,
-      bit-no (leb (key (move right a)) (key a)) (λ t. let k = leb→le (key (move right a)) (key a) t in omega arith),
+      bit-false (lt-leb (key (move right a)) (key a) (omega arith)),
       falls-last key right b l z (asc .1) (h .1) (omega arith),
     )
 

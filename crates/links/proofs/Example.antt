@@ -10,8 +10,9 @@ use native.Mathlib.Omega.{arith}
 use Rattle.interval.proofs.Laws.{inside}
 use Rattle.node.specs.declared.Link.{Link}
 use Rattle.node.specs.declared.Link.the-variants.{Unlinked, To}
+use Rattle.truth.proofs.TestLaws.{_∈_}
 use Rattle.links.specs.Walk.{after, walk, times, falls, Circuit, Predecessor}
-use Rattle.links.proofs.Ring.{_∈_, here, there, in-nil, in-cons, Ring, With, Without}
+use Rattle.links.proofs.Ring.{here, there, in-nil, in-cons, Ring, With, Without}
 use Rattle.links.proofs.Lists.{each-nil, each-cons}
 use Rattle.links.proofs.Circuit.{predecessor, circuit}
 use Rattle.links.proofs.Change.{insert, remove}
@@ -70,7 +71,7 @@ kept (suc (suc (suc m))) n k = refl
 two-and-2 : With key three (0 ∷ 1 ∷ []) 2
 two-and-2 = insert ring-of-two (here refl) new refl refl refl kept (inside (lit< tt) (lit< tt))
   where
-    new : ¬ (2 ∈ (0 ∷ 1 ∷ []))
+    new : ¬ (_∈_ {A = ℕ} 2 (0 ∷ 1 ∷ []))
     new i = ⊎-elim (λ e. omega arith) (λ j. ⊎-elim (λ e. omega arith) in-nil (in-cons j)) (in-cons i)
 
 three-but-2 : Without key two (0 ∷ 2 ∷ 1 ∷ []) 2

@@ -2,13 +2,15 @@
 -- a node more or less. By induction on the list. Assumes nothing.
 use mathlib.Core.Path.{_≡_, refl, sym, ap}
 use mathlib.Core.Logic.{_⊎_, inl, inr, ⊎-elim, _↔_, _≢_}
-use mathlib.Core.Bool.{Bool, true, false}
+use mathlib.Core.Bool.{Bool}
 use mathlib.Core.List.{List, [], _∷_, _++_}
-use Prim.Native.Nat.{ℕ, _+_, _<_}
+use Prim.Native.Nat.{ℕ, _<_}
 use native.Mathlib.Omega.{arith}
-use lib.Dec.{T, eqb, eqb→eq, eqb-refl}
-use Rattle.links.specs.Walk.{bit, count, times}
-use Rattle.links.proofs.Ring.{_∈_, here, there, in-nil, in-cons, in-part, in-left, in-right, Ascending}
+use borrow.Author.Tests.{eq-eqb, ne-eqb}
+use Rattle.truth.specs.Tests.{count}
+use Rattle.truth.proofs.TestLaws.{_∈_, bit-true, bit-false, count-append}
+use Rattle.links.specs.Walk.{times}
+use Rattle.links.proofs.Ring.{here, there, in-nil, in-cons, in-part, in-left, in-right, Ascending}
 
 -- ---- members
 pub cut : {s : ℕ} {l : List ℕ} → s ∈ l → (pre : List ℕ) × (post : List ℕ) × (l ≡ pre ++ s ∷ post)
@@ -47,24 +49,12 @@ pub adds-behind : (pre : List ℕ) (p : ℕ) (post : List ℕ) (u : ℕ) → Add
 adds-behind pre p post u = adds-within pre (p ∷ post) (p ∷ u ∷ post) u (adds-between (p ∷ []) post u)
 
 -- ---- counts
-pub bit-yes : (b : Bool) → T b → bit b ≡ 1
-bit-yes true t = refl
-bit-yes false t = absurd t
-
-pub bit-no : (b : Bool) → ¬ T b → bit b ≡ 0
-bit-no true t = absurd (t tt)
-bit-no false t = refl
-
-count-append : (test : ℕ → Bool) (l m : List ℕ) → count test (l ++ m) ≡ count test l + count test m
-count-append test [] m = omega arith
-count-append test (x ∷ l) m = omega (arith, count-append test l m)
-
 pub count-swapped : (test : ℕ → Bool) (l m : List ℕ) → count test (l ++ m) ≡ count test (m ++ l)
 count-swapped test l m = omega (arith, count-append test l m, count-append test m l)
 
 pub never : (m : ℕ) (l : List ℕ) → ¬ (m ∈ l) → times m l ≡ 0
 never m [] n = refl
-never m (x ∷ l) n = omega (arith, bit-no (eqb m x) (λ t. n (here (eqb→eq m x t))), never m l (λ i. n (there i)))
+never m (x ∷ l) n = omega (arith, bit-false (ne-eqb m x (λ e. n (here e))), never m l (λ i. n (there i)))
 
 -- ---- ascending lists
 module _ (key : ℕ → ℕ) where
@@ -72,8 +62,8 @@ module _ (key : ℕ → ℕ) where
   lower-differs h e = let k = ap key e in omega arith
 
   pub once : (m : ℕ) {L : List ℕ} → Ascending key L → m ∈ L → times m L ≡ 1
-  once m h (here {x = a} {xs = l} e) = rw e (omega (arith, bit-yes (eqb a a) (eqb-refl a), never a l (λ i. lower-differs (h .0 a i) refl)))
-  once m h (there {x = a} i) = omega (arith, bit-no (eqb m a) (λ t. lower-differs (h .0 m i) (sym (eqb→eq m a t))), once m (h .1) i)
+  once m h (here {x = a} {xs = l} e) = rw e (omega (arith, bit-true (eq-eqb a a refl), never a l (λ i. lower-differs (h .0 a i) refl)))
+  once m h (there {x = a} i) = omega (arith, bit-false (ne-eqb m a (λ e. lower-differs (h .0 m i) (sym e))), once m (h .1) i)
 
   pub ascending-from : (pre l : List ℕ) → Ascending key (pre ++ l) → Ascending key l
   ascending-from [] l h = h

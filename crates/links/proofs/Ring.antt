@@ -2,18 +2,14 @@
 -- one to the first. `With` and `Without` say that a ring has one member more, or one less. Definitions only.
 use mathlib.Core.Path.{_≡_}
 use mathlib.Core.Logic.{_⊎_, _↔_, _≢_}
-use mathlib.Core.List.{List, [], _∷_, List·Memᴰ}
+use mathlib.Core.List.{List, [], _∷_}
 pub use mathlib.Core.List.{List·Memᴰ·head as here, List·Memᴰ·tail as there, List·Memᴰ·cases-cons as in-cons}
 pub use mathlib.Core.List.{List·Memᴰ·not-nil as in-nil, List·Memᴰ·eq-of-singleton as in-one, List·Memᴰ·append-cases as in-part}
 pub use mathlib.Core.List.{Memᴰ·append-left as in-left, Memᴰ·append-right as in-right}
 use Prim.Native.Nat.{ℕ, _<_}
+use Rattle.truth.proofs.TestLaws.{_∈_}
 use Rattle.node.specs.declared.Link.{Link}
 use Rattle.node.specs.declared.Link.the-variants.{To}
-
--- x is one of l
-infix 4 _∈_
-abbrev pub _∈_ : ℕ → List ℕ → Type 0
-x ∈ l = List·Memᴰ x l
 
 -- each of L has a lower key than all that follow it
 abbrev pub Ascending : (ℕ → ℕ) → List ℕ → Type 0

@@ -6,8 +6,9 @@ use Prim.Native.Nat.{ℕ}
 use lib.ListN.{length}
 use Rattle.node.specs.declared.Link.{Link}
 use Rattle.node.specs.declared.Link.the-variants.{To}
+use Rattle.truth.proofs.TestLaws.{_∈_}
 use Rattle.links.specs.Walk.{endOf, move, after, walk}
-use Rattle.links.proofs.Ring.{_∈_, here, there, first, Trail, Links}
+use Rattle.links.proofs.Ring.{here, there, first, Trail, Links}
 
 pub first-append : (l m : List ℕ) (z : ℕ) → first (l ++ m) z ≡ first l (first m z)
 first-append [] m z = refl

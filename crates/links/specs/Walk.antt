@@ -1,10 +1,10 @@
 -- The words of the theorem on the ring: a walk along right links, and what it means that a walk goes once round the members. A node is
 -- a number; `key` gives its key and `right` its right link. Definitions only.
 use mathlib.Core.Path.{_≡_}
-use mathlib.Core.Bool.{Bool, true, false}
 use mathlib.Core.List.{List, [], _∷_}
-use Prim.Native.Nat.{ℕ, zero, suc, _+_}
+use Prim.Native.Nat.{ℕ, zero, suc}
 use lib.Dec.{eqb, leb}
+use Rattle.truth.specs.Tests.{count}
 use Rattle.node.specs.declared.Link.{Link}
 use Rattle.node.specs.declared.Link.the-variants.{Unlinked, To}
 
@@ -29,16 +29,6 @@ walk right s zero = []
 walk right s (suc k) = s ∷ walk right (move right s) k
 
 -- ---- counting
--- 1 for a test that is passed, 0 for one that is not
-abbrev pub bit : Bool → ℕ
-bit true = 1
-bit false = 0
-
--- how many of l pass the test
-abbrev pub count : (ℕ → Bool) → List ℕ → ℕ
-count test [] = 0
-count test (x ∷ l) = bit (test x) + count test l
-
 -- how often m stands in l
 abbrev pub times : ℕ → List ℕ → ℕ
 times m l = count (λ x. eqb m x) l

@@ -1,21 +1,43 @@
 -- Laws of the actions, for the proofs of those who build on a node's step. Assumes nothing.
-use mathlib.Core.Path.{_≡_, refl}
-use mathlib.Core.Bool.{true, false, not, _&&_}
-use mathlib.Core.List.{List·Memᴰ·head as here, List·Memᴰ·tail as there}
+use mathlib.Core.Path.{_≡_, refl, ap}
+use mathlib.Core.Logic.{_≢_}
+use mathlib.Core.Bool.{true, false}
 use mathlib.Core.Option.{none}
 use Prim.Native.Nat.{ℕ}
 use lib.Dec.{eqb}
-use borrow.Author.Tests.{not-false}
-use Rattle.truth.proofs.Laws.{both}
+use borrow.Author.Tests.{not-false, eqb-true, eq-eqb, ne-eqb}
+use Rattle.truth.proofs.Laws.{true-is-not-false, both}
 use Rattle.refusal.specs.Rules.{first}
-use Rattle.refusal.proofs.Laws.{clear-of}
-use Rattle.node.specs.declared.Node.{Node}
-use Rattle.sequence.specs.Sequence.{hasNext, cappedNext}
+use Rattle.refusal.proofs.Laws.{Cleared, cleared}
+use Rattle.sequence.specs.Sequence.{nextSeq, hasNext, cappedNext}
 use Rattle.sequence.proofs.Laws.{capped-next}
-use Rattle.node.specs.declared.Status.the-variants.{Out, Del}
-use Rattle.node.specs.declared.Outcome.the-variants.{Waiting, LeftAlone}
-use Rattle.node.specs.Shape.{isIn}
-use Rattle.node.specs.Actions.{linksTo, seqOf, withStatus, quiet, posting, alone, leaveRules, leaveRequest, leaving, grants}
+use Rattle.node.specs.declared.Status.{Status}
+use Rattle.node.specs.declared.Status.the-variants.{Out, Ins, In, Del}
+use Rattle.node.specs.declared.Link.{Link}
+use Rattle.node.specs.declared.Link.the-variants.{Unlinked, To}
+use Rattle.node.specs.declared.Node.{Node}
+use Rattle.node.specs.declared.Message.{Message}
+use Rattle.node.specs.declared.Peer.{Peer}
+use Rattle.node.specs.declared.Outcome.the-variants.{Created, Waiting, LeftAlone}
+use Rattle.node.specs.Shape.{isOut, isIn}
+use Rattle.node.specs.Actions.{setR, setRAck, setL, target, linksTo, seqOf, withStatus, quiet, posting, createRules, created, createOf, joinRules, joining, joinOf, alone, leaveRules, leaveRequest, leaving, leaveOf, grants, relinked, granting, onSetR, actOf, receiveRules, receiveOf}
+
+-- ---- what the tests say
+pub tested-out : (s : Status) → isOut s ≡ true → s ≡ Out
+tested-out Out h = refl
+tested-out Ins h = absurd (true-is-not-false h)
+tested-out In h = absurd (true-is-not-false h)
+tested-out Del h = absurd (true-is-not-false h)
+
+pub tested-in : (s : Status) → isIn s ≡ true → s ≡ In
+tested-in Out h = absurd (true-is-not-false h)
+tested-in Ins h = absurd (true-is-not-false h)
+tested-in In h = refl
+tested-in Del h = absurd (true-is-not-false h)
+
+pub tested-link : (l : Link) (n : ℕ) → linksTo l n ≡ true → l ≡ To n
+tested-link Unlinked n h = absurd (true-is-not-false h)
+tested-link (To m) n h = ap To (eqb-true m n h)
 
 -- what a granted request shows of the node that grants it
 pub record Grant (p : Node) (v new expected : ℕ) : Type 0 where
@@ -34,7 +56,7 @@ granted p v new expected h =
 module _ (me : ℕ) (u : Node) where
   pub leave-room : first (leaveRules me u) ≡ none → alone me u ≡ false → hasNext (seqOf (u .rseq)) ≡ true
   leave-room clear e =
-      let unspent = clear-of {n = 27} {refuses = not (alone me u) && not (hasNext (seqOf (u .rseq)))} {rules = leaveRules me u} clear (there (there (here refl))) in
+      let (_, (_, (unspent, _))) = cleared (leaveRules me u) clear in
       not-false (hasNext (seqOf (u .rseq))) (rw e at unspent)
 
   pub leaves-alone : alone me u ≡ true → quiet (withStatus Out u) LeftAlone ≡ leaving me u
@@ -42,3 +64,41 @@ module _ (me : ℕ) (u : Node) where
 
   pub leaves-by-request : alone me u ≡ false → hasNext (seqOf (u .rseq)) ≡ true → posting (withStatus Del u) (leaveRequest me u (cappedNext (seqOf (u .rseq)))) Waiting ≡ leaving me u
   leaves-by-request e room = rw (e, capped-next (seqOf (u .rseq)) room)
+
+-- ---- what a step does that no rule of its own refuses, with each message spelled out
+module _ (me : ℕ) (u : Node) where
+  pub create-accepted : Cleared (createRules me u) → createOf me u ≡ quiet (created me u) Created
+  unfolding createOf
+  create-accepted (sound, (out, _)) = rw (sound, out)
+
+  -- the request carries the joiner's left number
+  pub join-accepted : (p q : Peer) → Cleared (joinRules me u p q) → joinOf me u p q ≡ posting (joining u p q) (setR me (p .number) me (q .number) (u .lseq)) Waiting
+  unfolding joinOf
+  join-accepted p q (sound, (out, (lies, _))) = rw (sound, out, lies)
+
+  pub leave-alone-accepted : Cleared (leaveRules me u) → alone me u ≡ true → leaveOf me u ≡ quiet (withStatus Out u) LeftAlone
+  unfolding leaveOf
+  leave-alone-accepted (sound, (inside, (unspent, _))) e = rw (sound, inside, unspent, e)
+
+  -- the request carries the number after the leaver's right number
+  pub leave-accepted : Cleared (leaveRules me u) → alone me u ≡ false
+      → leaveOf me u ≡ posting (withStatus Del u) (setR me (target (u .left)) (target (u .right)) me (nextSeq (seqOf (u .rseq)))) Waiting
+  unfolding leaveOf
+  leave-accepted (sound, (inside, (unspent, _))) e = rw (sound, inside, unspent, e)
+
+  pub receive-accepted : (m : Message) → Cleared (receiveRules me u m) → receiveOf me u m ≡ actOf me u (m .sender) (m .kind)
+  unfolding receiveOf
+  receive-accepted m (sound, _) = rw sound
+
+-- ---- what a granted request comes to: the notice is for the node that has a new left neighbour
+module _ (p : Node) (me v new expected number : ℕ) (g : grants p v new expected ≡ true) where
+  pub join-granted : new ≡ v → onSetR me p v new expected number
+      ≡ granting (relinked p v number) (setL me expected v (nextSeq (seqOf (p .rseq)))) (setRAck me v (nextSeq (seqOf (p .rseq))))
+  join-granted e =
+      let facts = granted p v new expected g in
+      let same = eq-eqb new v e in
+      let to = ap target (tested-link (p .right) expected (facts .right)) in
+      rw (g, same, to, capped-next (seqOf (p .rseq)) (facts .room same), e)
+
+  pub leave-granted : new ≢ v → onSetR me p v new expected number ≡ granting (relinked p new number) (setL me new me number) (setRAck me v (cappedNext (seqOf (p .rseq))))
+  leave-granted d = rw (g, ne-eqb new v d)

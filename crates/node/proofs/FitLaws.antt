@@ -3,7 +3,7 @@
 -- Assumes nothing.
 use mathlib.Core.Path.{_≡_, refl, ap}
 use mathlib.Core.Bool.{Bool, true, false, not, _&&_, _||_, cond}
-use mathlib.Core.List.{List, [], _∷_, List·Memᴰ·head as here, List·Memᴰ·tail as there}
+use mathlib.Core.List.{List, [], _∷_}
 use mathlib.Core.Option.{Option, none, some}
 use Prim.Native.Nat.{ℕ, _≤_, _<_}
 use native.Mathlib.Omega.{arith}
@@ -11,7 +11,7 @@ use lib.Dec.{ltb, eqb}
 use borrow.Author.Tests.{ltb-true, lt-ltb, eq-eqb, not-false}
 use Rattle.truth.proofs.Laws.{both, or-right, not-left, true-is-not-false}
 use Rattle.refusal.specs.Rules.{first, settled}
-use Rattle.refusal.proofs.Laws.{clear-of}
+use Rattle.refusal.proofs.Laws.{cleared}
 use Rattle.serial.specs.Serial.{inRange}
 use Rattle.sequence.specs.Sequence.{nextSeq, newer}
 use Rattle.node.specs.declared.Status.{Status}
@@ -158,7 +158,7 @@ module _ (count me : ℕ) (me-in : ltb me count ≡ true) (u : Node) (f : NodeFi
   leave-fits = settled-fits f (first (leaveRules me u)) (leaving me u) (λ clear. cond-fits (alone me u) _ _ (λ _. record { node = out-fits f; posts = tt }) (λ _. by-request (is-in clear)))
     where
       is-in : first (leaveRules me u) ≡ none → isIn (u .status) ≡ true
-      is-in clear = not-false (isIn (u .status)) (clear-of {n = 26} {refuses = not (isIn (u .status))} {rules = leaveRules me u} clear (there (here refl)))
+      is-in clear = let (_, (inside, _)) = cleared (leaveRules me u) clear in not-false (isIn (u .status)) inside
 
       by-request : isIn (u .status) ≡ true → EffectFits count (posting (withStatus Del u) (leaveRequest me u (nextSeq (seqOf (u .rseq)))) Waiting)
       by-request h =

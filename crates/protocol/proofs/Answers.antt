@@ -1,11 +1,10 @@
 -- The invariant holds after the delivery of an answer: the node that waited for it is then in or out, and is inserted exactly if it was.
 -- Assumes nothing.
 use mathlib.Core.Path.{_≡_, refl, sym, ap, _∙_}
-use mathlib.Core.Logic.{_⊎_, inl, inr, ⊎-elim, _≢_}
-use mathlib.Core.Bool.{Bool, true, false, not}
+use mathlib.Core.Logic.{_⊎_, ⊎-elim, _≢_}
+use mathlib.Core.Bool.{Bool, true, false}
 use mathlib.Core.List.{List}
 use Prim.Native.Nat.{ℕ}
-use native.Mathlib.Omega.{arith}
 use native.Mathlib.Decide.{ℕ-discrete}
 use borrow.Author.Tests.{eq-eqb, ne-eqb}
 use Rattle.truth.specs.Tests.{any}
@@ -15,12 +14,12 @@ use Rattle.node.specs.declared.Status.the-variants.{Out, Ins, In, Del}
 use Rattle.node.specs.declared.Seq.the-variants.{Is}
 use Rattle.node.specs.declared.Node.{Node}
 use Rattle.node.specs.declared.Message.{Message}
-use Rattle.node.specs.Shape.{isOut, isIn}
 use Rattle.node.specs.Actions.{setR, setRAck, setRNak, setL, withStatus, admitted}
 use Rattle.protocol.specs.State.{isAckTo, isDealingOf, isNotice, isInserted}
-use Rattle.protocol.proofs.Facts.{Taken}
-use Rattle.protocol.proofs.Invariant.{Dealt, isMember, Member, Keeps, stored, coming, Invariant}
-use Rattle.protocol.proofs.Frames.{At, Settled, settled-in, settled-out, unchanged, apart, request-deals, ack-deals, nak-deals, only-dealing, no-ack, acks-left, member-same, request-same, keeps-same, left-same, SameRing, same-order}
+use Rattle.protocol.proofs.Waiting.{Taken, Dealt, apart, request-deals, ack-deals, nak-deals, only-dealing, no-ack, acks-left}
+use Rattle.protocol.proofs.Fields.{statusOf, keyOf, leftOf, rightOf, lseqOf, rseqOf}
+use Rattle.protocol.proofs.Invariant.{isMember, Member, Keeps, stored, coming, Invariant}
+use Rattle.protocol.proofs.Frames.{At, Settled, settled-in, settled-out, ins-not-del, unchanged, member-same, request-same, keeps-same, left-same, same-order}
 
 -- m is an answer to i, which then stands as x, settled, with the links and the left number it had
 module _ {N N′ : ℕ → Node} {M rest : List Message} {told joins : ℕ → Bool} {m : Message} {i : ℕ} {x : Node}
@@ -39,21 +38,21 @@ module _ {N N′ : ℕ → Node} {M rest : List Message} {told joins : ℕ → B
     order = same-order (record {
       member = member;
       key = λ u _. keys u;
-      right = λ u _. unchanged at (λ (y : Node). y .right) right u;
+      right = λ u _. unchanged at rightOf right u;
       keeps = λ v R mv k. keeps v R mv k (ℕ-discrete v i);
-      lefts = λ v u R _ k. left-same (unchanged at (λ (y : Node). y .lseq) lseq u) (unchanged at (λ (y : Node). y .left) left u) (λ w a n j. t .left _ j) (λ w a n j. notice w u a n j) k;
+      lefts = λ v u R _ k. left-same (unchanged at lseqOf lseq u) (unchanged at leftOf left u) (λ w a n j. t .left _ j) (λ w a n j. notice w u a n j) k;
     }) (inv .order);
   }
     where
       keys : (u : ℕ) → N′ u .key ≡ N u .key
-      keys = unchanged at (λ (y : Node). y .key) key
+      keys = unchanged at keyOf key
 
       waited : (u : ℕ) (s : Status) → x .status ≢ s → N′ u .status ≡ s → N u .status ≡ s
       waited u s n h = go (ℕ-discrete u i)
         where
           go : Dec (u ≡ i) → N u .status ≡ s
-          go (yes e) = absurd (n (sym (ap (λ (y : Node). y .status) (at .self)) ∙ ap (λ u. N′ u .status) (sym e) ∙ h))
-          go (no e) = sym (ap (λ (y : Node). y .status) (at .others u e)) ∙ h
+          go (yes e) = absurd (n (sym (ap statusOf (at .self)) ∙ ap (λ u. N′ u .status) (sym e) ∙ h))
+          go (no e) = sym (ap statusOf (at .others u e)) ∙ h
 
       not-own : (v p new e n : ℕ) → setR v p new e n ∈ rest → v ≢ i
       not-own v p new e n j same = not-both (request-deals v p new e n) (rw (← same) at (only-dealing dealt i t d j))
@@ -63,11 +62,11 @@ module _ {N N′ : ℕ → Node} {M rest : List Message} {told joins : ℕ → B
         where
           go : Dec (u ≡ i) → isMember N′ rest u ≡ isMember N M u
           go (yes e) = rw e own
-          go (no e) = member-same (ap (λ (y : Node). y .status) (at .others u e)) (acks-left u t (elsewhere u e))
+          go (no e) = member-same (ap statusOf (at .others u e)) (acks-left u t (elsewhere u e))
 
       keeps : (v R : ℕ) → Member N M v → Keeps N′ rest v R → Dec (v ≡ i) → Keeps N M v R
       keeps v R mv k (yes e) = rw e (keep R (rw e at mv) (rw e at k))
-      keeps v R mv k (no e) = keeps-same (ap (λ (y : Node). y .status) (at .others v e)) (ap (λ (y : Node). y .rseq) (at .others v e)) (λ w j. t .left _ j) k
+      keeps v R mv k (no e) = keeps-same (ap statusOf (at .others v e)) (ap rseqOf (at .others v e)) (λ w j. t .left _ j) k
 
       notice : (w u a n : ℕ) → setL w u a n ∈ M → setL w u a n ∈ rest
       notice w u a n j = ⊎-elim (λ e. absurd (apart (λ y. isNotice (y .kind)) refl not-notice e)) (λ k. k) (t .either _ j)
@@ -91,10 +90,10 @@ module _ {N N′ : ℕ → Node} {M rest : List Message} {told joins : ℕ → B
 
       keep : (R : ℕ) → Member N M i → Keeps N′ rest i R → Keeps N M i R
       keep R _ (stored f e) =
-          let same : Is n ≡ Is R = sym (ap (λ (y : Node). y .rseq) (at .self)) ∙ e in
+          let same : Is n ≡ Is R = sym (ap rseqOf (at .self)) ∙ e in
           let r : n ≡ R = cc in
           coming ins p (rw r at (t .waits))
-      keep R _ (coming h w j) = absurd (settled-in .0 (sym (ap (λ (y : Node). y .status) (at .self)) ∙ h))
+      keep R _ (coming h w j) = absurd (settled-in .0 (sym (ap statusOf (at .self)) ∙ h))
 
   -- "At del: out": it was no longer inserted from the grant on
   pub goes-kept : (n : ℕ) → Taken M (setRAck p i n) rest → N i .status ≡ Del → At N i (withStatus Out (N i)) N′ → Invariant N′ rest told joins
@@ -133,5 +132,5 @@ module _ {N N′ : ℕ → Node} {M rest : List Message} {told joins : ℕ → B
       before = member-same del (no-ack dealt i t (nak-deals p i) refl)
 
       keep : (R : ℕ) → Member N M i → Keeps N′ rest i R → Keeps N M i R
-      keep R _ (stored f e) = stored (λ h. let d = sym del ∙ h in let z : _≡_ {A = ℕ} 0 1 = cc in omega arith) (sym (ap (λ (y : Node). y .rseq) (at .self)) ∙ e)
-      keep R _ (coming h w j) = absurd (settled-in .0 (sym (ap (λ (y : Node). y .status) (at .self)) ∙ h))
+      keep R _ (stored f e) = stored (λ h. ins-not-del (sym h ∙ del)) (sym (ap rseqOf (at .self)) ∙ e)
+      keep R _ (coming h w j) = absurd (settled-in .0 (sym (ap statusOf (at .self)) ∙ h))

@@ -1,101 +1,47 @@
 -- Every call on every network is one of the cases of `Change`. Where a rule refuses, it is the refusal; else no rule's condition holds,
 -- and the cleared rules and the network's well-formedness give the facts of the case, and the node's step its result. Assumes nothing.
-use mathlib.Core.Path.{_≡_, refl, sym, ap, subst}
-use mathlib.Core.Logic.{_≢_}
-use mathlib.Core.Bool.{Bool, true, false, not, _&&_, cond}
-use mathlib.Core.List.{List, [], _∷_, append-nil}
+use mathlib.Core.Path.{_≡_, refl, ap}
+use mathlib.Core.Logic.{⊎-elim, _≢_}
+use mathlib.Core.Bool.{true, false, not, _&&_}
+use mathlib.Core.List.{List, append-nil}
 use mathlib.Core.Option.{Option, none, some}
 use Prim.Native.Nat.{ℕ, _<_}
 use native.Mathlib.Omega.{arith}
+use native.Mathlib.Decide.{ℕ-discrete}
 use lib.ListN.{length}
-use lib.Dec.{T, ltb, eqb}
-use borrow.Author.Tests.{ltb-true, eqb-true, eqb-false, eq-eqb, not-true, not-false}
-use Rattle.truth.proofs.Laws.{true-is-not-false, both, or-right}
-use Rattle.truth.proofs.TestLaws.{_∈_, not-both, count-in, below-at}
-use Rattle.refusal.specs.Rules.{Rule, _when_, first, settled}
+use lib.Dec.{ltb, eqb}
+use borrow.Author.Tests.{ltb-true, eqb-false, eq-eqb, not-true, not-false}
+use Rattle.truth.proofs.Laws.{or-right, left-fails, by-test}
+use Rattle.truth.proofs.TestLaws.{_∈_, decided, holds, not-both, count-in, below-at}
+use Rattle.refusal.specs.Rules.{first, settled}
+use Rattle.refusal.proofs.Laws.{Cleared, cleared}
 use Rattle.serial.specs.Serial.{inRange}
 use Rattle.interval.specs.Interval.{between}
 use Rattle.interval.proofs.Laws.{Between, between-iff}
 use Rattle.sequence.specs.Sequence.{newer}
-use Rattle.sequence.proofs.Laws.{capped-next}
 use Rattle.node.specs.declared.Status.{Status}
 use Rattle.node.specs.declared.Status.the-variants.{Out, Ins, In, Del}
-use Rattle.node.specs.declared.Link.{Link}
-use Rattle.node.specs.declared.Link.the-variants.{Unlinked, To}
-use Rattle.node.specs.declared.Node.{Node}
 use Rattle.node.specs.declared.Kind.{Kind}
 use Rattle.node.specs.declared.Kind.the-variants.{SetR, SetRAck, SetRNak, SetL}
 use Rattle.node.specs.declared.Message.{Message}
-use Rattle.node.specs.declared.Peer.{Peer}
-use Rattle.node.specs.Shape.{isOut, isIn, isInOrDel, messageFits, capacity}
-use Rattle.node.specs.Actions.{Effect, target, seqOf, linksTo, createRules as nodeCreateRules, creating as nodeCreating, createOf, joinRules, asking, joinOf, alone, leaveRules, leaving as nodeLeaving, leaveOf, grants, notice, ack, relinked, granting, onSetR, onSetRAck, onSetRNak, onSetL, onKind, actOf, receiveRules, receiveOf}
-use Rattle.node.proofs.ActionLaws.{Grant, granted}
-use Rattle.node.proofs.FitLaws.{NodeFits, left-named, right-named, number-named, well-formed-among, deliverable-among}
+use Rattle.node.specs.Shape.{isOut, isInOrDel, capacity}
+use Rattle.node.specs.Actions.{Effect, target, seqOf, alone, leaveRules, grants, onSetR, onSetRAck, onSetRNak, onSetL, onKind}
+use Rattle.node.proofs.ActionLaws.{tested-out, tested-in, tested-link, granted, create-accepted, join-accepted, leave-alone-accepted, leave-accepted, receive-accepted, join-granted, leave-granted}
+use Rattle.node.proofs.FitLaws.{NodeFits, message-facts, left-named, right-named, number-named, well-formed-among, deliverable-among}
 use Rattle.protocol.specs.declared.Call.{Call}
 use Rattle.protocol.specs.declared.Call.the-variants.{Declare, Create, Join, Leave, Deliver}
 use Rattle.protocol.specs.State.{State, queueLimit, nodeAt, statusAt, keyAt, leftAt, rightAt, isRequest, isAnswer, isDealingOf, dealings, wellFormed}
 use Rattle.protocol.specs.Calls.{refused, commit, isFull, declareRules, declaring, createRules, creating, peerAt, joinCallRules, joining, leaveCallRules, leaving, messageAt, without, wouldGrant, deliverRules, receiving, delivering, rulesOf, effectOf, applyOf}
-use Rattle.protocol.proofs.Facts.{WellFormed, formed, taken}
+use Rattle.protocol.proofs.Waiting.{taken}
+use Rattle.protocol.proofs.Facts.{WellFormed, formed}
 use Rattle.protocol.proofs.Changes.{Grants, Act, drops, lets-in, lets-go, denies, joins, goes, stays-out, stays-in, takes, ignores, Change, refuses, declares, creates, asks, goes-alone, leaves, delivers}
 
--- ---- where no rule refuses, no condition holds
-abbrev Cleared : List Rule → Type 0
-Cleared [] = Unit {0}
-Cleared ((n when holds) ∷ rules) = (holds ≡ false) × Cleared rules
-
-cleared : (rules : List Rule) → first rules ≡ none → Cleared rules
-cleared [] e = tt
-cleared ((n when true) ∷ rules) e = let z : _≡_ {A = ℕ} 0 1 = cc in absurd (omega arith)
-cleared ((n when false) ∷ rules) e = (refl, cleared rules e)
-
 -- ---- what the tests say
-by-test : {A : Type 0} (P : A → Type 0) (b : Bool) (x y : A) → (b ≡ true → P x) → (b ≡ false → P y) → P (cond b x y)
-by-test P true x y f g = f refl
-by-test P false x y f g = g refl
-
-left-fails : (p q : Bool) → (p && q) ≡ false → q ≡ true → p ≡ false
-left-fails true q h e = absurd (not-both e h)
-left-fails false q h e = refl
-
 tested-below : (n m : ℕ) → not (ltb n m) ≡ false → n < m
 tested-below n m e = ltb-true n m (not-false (ltb n m) e)
 
 tested-between : (a b u : ℕ) → not (between a b u) ≡ false → Between a b u
-tested-between a b u e = between-iff a b u .0 (subst T (sym (not-false (between a b u) e)) tt)
-
-tested-out : (t : Status) → isOut t ≡ true → t ≡ Out
-tested-out Out h = refl
-tested-out Ins h = absurd (true-is-not-false h)
-tested-out In h = absurd (true-is-not-false h)
-tested-out Del h = absurd (true-is-not-false h)
-
-tested-in : (t : Status) → isIn t ≡ true → t ≡ In
-tested-in Out h = absurd (true-is-not-false h)
-tested-in Ins h = absurd (true-is-not-false h)
-tested-in In h = refl
-tested-in Del h = absurd (true-is-not-false h)
-
-tested-link : (l : Link) (n : ℕ) → linksTo l n ≡ true → l ≡ To n
-tested-link Unlinked n h = absurd (true-is-not-false h)
-tested-link (To m) n h = ap To (eqb-true m n h)
-
--- ---- a node's step that its own rules do not refuse
-module _ (me : ℕ) (u : Node) where
-  create-accepted : Cleared (nodeCreateRules me u) → createOf me u ≡ nodeCreating me u
-  unfolding createOf
-  create-accepted (sound, (out, _)) = rw (sound, out)
-
-  join-accepted : (p q : Peer) → Cleared (joinRules me u p q) → joinOf me u p q ≡ asking me u p q
-  unfolding joinOf
-  join-accepted p q (sound, (out, (lies, _))) = rw (sound, out, lies)
-
-  leave-accepted : Cleared (leaveRules me u) → leaveOf me u ≡ nodeLeaving me u
-  unfolding leaveOf
-  leave-accepted (sound, (inside, (unspent, _))) = rw (sound, inside, unspent)
-
-  receive-accepted : (m : Message) → Cleared (receiveRules me u m) → receiveOf me u m ≡ actOf me u (m .sender) (m .kind)
-  unfolding receiveOf
-  receive-accepted m (sound, _) = rw sound
+tested-between a b u e = between-iff a b u .0 (holds (not-false (between a b u) e))
 
 -- ---- the calls
 declare-case : (s : State) (key : ℕ) → first (declareRules s key) ≡ none → Change s (Declare key) (declaring s key)
@@ -141,9 +87,10 @@ leave-case s u clear =
     let fits = formed s (not-false (wellFormed s) ok) .node u declared in
     let is-in : statusAt s u ≡ In = tested-in (statusAt s u) (not-false _ inside) in
     let right = right-named fits (ap isOut is-in) in
-    rw (leave-accepted u (nodeAt s u) (sound, (inside, (unspent, tt))))
-    (by-test (λ e. Change s (Leave u) (commit s u (s .messages) e)) (alone u (nodeAt s u)) _ _
-    (λ t. goes-alone u refl record { declared = declared; is-in = is-in; alone = tested-link (rightAt s u) u t } (rw append-nil))
+    let own : Cleared (leaveRules u (nodeAt s u)) = (sound, (inside, (unspent, tt))) in
+    ⊎-elim
+    (λ t. goes-alone u refl record { declared = declared; is-in = is-in; alone = tested-link (rightAt s u) u t }
+    (rw (leave-alone-accepted u (nodeAt s u) own t, append-nil)))
     (λ f. leaves u (target (leftAt s u)) (target (rightAt s u)) (seqOf (nodeAt s u .rseq)) refl record {
       declared = declared;
       is-in = is-in;
@@ -153,7 +100,8 @@ leave-case s u clear =
       number = number-named fits (ap isInOrDel is-in);
       unspent = not-false _ (rw f at unspent);
       room = tested-below (length (s .messages)) queueLimit (left-fails (isFull s) _ room (ap not f));
-    } refl))
+    } (rw (leave-accepted u (nodeAt s u) own f)))
+    (decided (alone u (nodeAt s u)))
 
 -- ---- deliver: what node p does with v's message, the rest still waiting
 module _ (s : State) (v p : ℕ) (rest : List Message) where
@@ -162,23 +110,21 @@ module _ (s : State) (v p : ℕ) (rest : List Message) where
   ActsBy kind e = Act s (record { sender = v; to = p; kind = kind }) rest (commit s p rest e)
 
   module _ {count : ℕ} (fits : NodeFits count (nodeAt s p)) (not-out : statusAt s p ≢ Out) where
-    grant-case : (new e n : ℕ) → Grant (nodeAt s p) v new e → length (s .messages) < queueLimit
-        → ActsBy (SetR new e n) (granting (relinked (nodeAt s p) new n) (notice p (nodeAt s p) v new n) (ack p (nodeAt s p) v))
-    grant-case new e n g room =
-        by-test (λ told. ActsBy (SetR new e n) (granting (relinked (nodeAt s p) new n) told (ack p (nodeAt s p) v))) (eqb new v) _ _
-        (λ t. lets-in v p e n _ (rw (eqb-true new v t)) facts (g .room t) (rw (eqb-true new v t, ap target (facts .right), capped-next _ (g .room t))))
-        (λ f. lets-go v p new e n _ refl (eqb-false new v f) facts refl)
-      where
-        facts : Grants s p e (seqOf (nodeAt s p .rseq))
-        facts =
-            let is-in : statusAt s p ≡ In = tested-in (statusAt s p) (g .is-in) in
-            record { is-in = is-in; right = tested-link (rightAt s p) e (g .right); number = number-named fits (ap isInOrDel is-in); room = room }
-
     request-case : (new e n : ℕ) → (grants (nodeAt s p) v new e ≡ true → length (s .messages) < queueLimit) → ActsBy (SetR new e n) (onSetR p (nodeAt s p) v new e n)
-    request-case new e n room =
-        by-test (ActsBy (SetR new e n)) (grants (nodeAt s p) v new e) _ _
-        (λ g. grant-case new e n (granted (nodeAt s p) v new e g) (room g))
-        (λ _. denies v p new e n refl not-out refl)
+    request-case new e n room = ⊎-elim grant (λ f. denies v p new e n refl not-out (rw f)) (decided (grants (nodeAt s p) v new e))
+      where
+        facts : grants (nodeAt s p) v new e ≡ true → Grants s p e (seqOf (nodeAt s p .rseq))
+        facts g =
+            let shown = granted (nodeAt s p) v new e g in
+            let is-in : statusAt s p ≡ In = tested-in (statusAt s p) (shown .is-in) in
+            record { is-in = is-in; right = tested-link (rightAt s p) e (shown .right); number = number-named fits (ap isInOrDel is-in); room = room g }
+
+        grant : grants (nodeAt s p) v new e ≡ true → ActsBy (SetR new e n) (onSetR p (nodeAt s p) v new e n)
+        grant g = go (ℕ-discrete new v)
+          where
+            go : Dec (new ≡ v) → ActsBy (SetR new e n) (onSetR p (nodeAt s p) v new e n)
+            go (yes d) = lets-in v p e n _ (rw d) (facts g) (granted (nodeAt s p) v new e g .room (eq-eqb new v d)) (rw (join-granted (nodeAt s p) p v new e n g d))
+            go (no d) = lets-go v p new e n _ refl d (facts g) (rw (leave-granted (nodeAt s p) p v new e n g d))
 
     ack-case : (n : ℕ) (t : Status) → statusAt s p ≡ t → t ≢ In → ActsBy (SetRAck n) (onSetRAck t (nodeAt s p) n)
     ack-case n Out e not-in = drops e (rw append-nil)
@@ -205,13 +151,9 @@ module _ (s : State) (v p : ℕ) (rest : List Message) where
     kind-case SetRNak room not-in = nak-case (statusAt s p) refl (not-in refl)
     kind-case (SetL left n) room not-in = notice-case left n
 
-addressed : (count : ℕ) (m : Message) → messageFits count m ≡ true → m .to < count
-unfolding messageFits
-addressed count m h = ltb-true (m .to) count (both (ltb (m .to) count) _ (both (ltb (m .sender) count) _ h .1) .0)
-
 module _ (s : State) (w : WellFormed s) (m : Message) (waits : m ∈ s .messages) where
   declared-addressee : m .to < length (s .nodes)
-  declared-addressee = addressed (length (s .nodes)) m (w .message m waits)
+  declared-addressee = ltb-true (m .to) (length (s .nodes)) (message-facts (length (s .nodes)) m (w .message m waits) .to)
 
   -- an answer is its addressee's one dealing, and a node that is in has none
   answered-not-in : isAnswer (m .kind) ≡ true → statusAt s (m .to) ≢ In

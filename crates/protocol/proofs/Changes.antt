@@ -3,7 +3,7 @@
 -- Assumes nothing.
 use mathlib.Core.Path.{_≡_}
 use mathlib.Core.Logic.{_≢_}
-use mathlib.Core.Bool.{Bool, true, false}
+use mathlib.Core.Bool.{true, false}
 use mathlib.Core.List.{List, [], _∷_, _++_}
 use Prim.Native.Nat.{ℕ, _<_}
 use lib.ListN.{length, set}
@@ -25,7 +25,7 @@ use Rattle.protocol.specs.declared.Call.the-variants.{Declare, Create, J
 use Rattle.protocol.specs.declared.Reply.the-variants.{Stepped}
 use Rattle.protocol.specs.State.{State, queueLimit, nodeAt, statusAt, keyAt, leftAt, rightAt, noticeWaits}
 use Rattle.protocol.specs.Calls.{Result, refused, declaring, peerAt, messageAt}
-use Rattle.protocol.proofs.Facts.{Taken}
+use Rattle.protocol.proofs.Waiting.{Taken}
 
 -- node i stands as x, these messages wait, and this is the outcome
 abbrev pub moved : State → ℕ → Node → List Message → Outcome → Result

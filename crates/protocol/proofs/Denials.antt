@@ -1,27 +1,25 @@
 -- The invariant holds after the delivery of a request that is denied, and of any message to a node that is out: no node changes, and of
 -- what waited nothing goes that the invariant speaks of. Assumes nothing.
 use mathlib.Core.Path.{_≡_, refl, sym, ap, _∙_}
-use mathlib.Core.Logic.{_⊎_, inl, inr, ⊎-elim, _≢_}
+use mathlib.Core.Logic.{_⊎_, ⊎-elim, _≢_}
 use mathlib.Core.Bool.{Bool, true, false}
 use mathlib.Core.List.{List, [], _∷_, _++_, Memᴰ·append-left as in-left}
 use Prim.Native.Nat.{ℕ}
-use native.Mathlib.Omega.{arith}
 use borrow.Author.Tests.{eqb-true}
-use lib.Dec.{eqb}
 use Rattle.truth.specs.Tests.{any}
 use Rattle.truth.proofs.Laws.{both}
 use Rattle.truth.proofs.TestLaws.{_∈_, decided, not-both}
-use Rattle.node.specs.declared.Status.{Status}
-use Rattle.node.specs.declared.Status.the-variants.{Out, Ins}
+use Rattle.node.specs.declared.Status.the-variants.{Out}
 use Rattle.node.specs.declared.Kind.{Kind}
 use Rattle.node.specs.declared.Kind.the-variants.{SetR, SetRAck, SetRNak, SetL}
 use Rattle.node.specs.declared.Node.{Node}
 use Rattle.node.specs.declared.Message.{Message}
-use Rattle.node.specs.Actions.{setR, setRAck, setRNak, setL}
-use Rattle.protocol.specs.State.{isAck, isAckTo, isDealingOf, isNotice, isRequest, dealings, isInserted}
-use Rattle.protocol.proofs.Facts.{Taken}
-use Rattle.protocol.proofs.Invariant.{Dealt, isMember, Member, Invariant}
-use Rattle.protocol.proofs.Frames.{At, unchanged, apart, in-one, same-any, ack-dealing, no-dealing, acks-left, member-same, member-not-out, request-same, keeps-same, left-same, SameRing, same-order}
+use Rattle.node.specs.Actions.{setR, setRNak, setL}
+use Rattle.protocol.specs.State.{isAck, isAckTo, isNotice, dealings}
+use Rattle.protocol.proofs.Waiting.{Taken, Dealt, apart, in-one, same-any, ack-dealing, no-dealing, acks-left}
+use Rattle.protocol.proofs.Fields.{statusOf, keyOf, leftOf, rightOf, lseqOf, rseqOf, toOf}
+use Rattle.protocol.proofs.Invariant.{isMember, Invariant}
+use Rattle.protocol.proofs.Frames.{At, unchanged, member-same, member-not-out, request-same, keeps-same, left-same, same-order}
 
 -- SetRNak
 abbrev pub isDenial : Kind → Bool
@@ -44,17 +42,17 @@ unmoved {N} {N′} {M} {M′} inv same acks from to = record {
   order = same-order (record {
     member = member;
     key = λ u _. keys u;
-    right = λ u _. ap (λ (y : Node). y .right) (same u);
-    keeps = λ v R _ k. keeps-same (status v) (ap (λ (y : Node). y .rseq) (same v)) (λ w j. from _ refl j) k;
-    lefts = λ v u R mu k. left-same (ap (λ (y : Node). y .lseq) (same u)) (ap (λ (y : Node). y .left) (same u)) (λ w a n j. from _ refl j) (λ w a n j. to w u a n (member-not-out N M u mu) j) k;
+    right = λ u _. ap rightOf (same u);
+    keeps = λ v R _ k. keeps-same (status v) (ap rseqOf (same v)) (λ w j. from _ refl j) k;
+    lefts = λ v u R mu k. left-same (ap lseqOf (same u)) (ap leftOf (same u)) (λ w a n j. from _ refl j) (λ w a n j. to w u a n (member-not-out N M u mu) j) k;
   }) (inv .order);
 }
   where
     status : (u : ℕ) → N′ u .status ≡ N u .status
-    status u = ap (λ (y : Node). y .status) (same u)
+    status u = ap statusOf (same u)
 
     keys : (u : ℕ) → N′ u .key ≡ N u .key
-    keys u = ap (λ (y : Node). y .key) (same u)
+    keys u = ap keyOf (same u)
 
     member : (u : ℕ) → isMember N′ M′ u ≡ isMember N M u
     member u = member-same (status u) (acks u)
@@ -79,4 +77,4 @@ module _ {N N′ : ℕ → Node} {M rest : List Message} {told joins : ℕ → B
           idle u a = ap (λ w. dealings (N w .status)) (sym (eqb-true (m .to) u (both (isAck (m .kind)) _ a .1)) ∙ to) ∙ ap dealings out
 
       notice : (w u a n : ℕ) → N u .status ≢ Out → setL w u a n ∈ M → setL w u a n ∈ rest
-      notice w u a n d j = ⊎-elim (λ e. absurd (d (ap (λ k. N k .status) (ap (λ (y : Message). y .to) e ∙ to) ∙ out))) (λ k. k) (t .either _ j)
+      notice w u a n d j = ⊎-elim (λ e. absurd (d (ap (λ k. N k .status) (ap toOf e ∙ to) ∙ out))) (λ k. k) (t .either _ j)

@@ -1,7 +1,6 @@
 -- Paper 01's example script, as a list of calls: the definitions give the answers that the paper prints, and who is inserted. So the
 -- claim speaks of networks in which nodes join and leave. Each line computes. Assumes nothing.
 use mathlib.Core.Path.{_≡_, refl}
-use mathlib.Core.Bool.{true, false}
 use mathlib.Core.List.{List, [], _∷_}
 use Rattle.refusal.specs.Rules.{Coded, done, no}
 use Rattle.interval.specs.Interval.{between}
@@ -13,9 +12,8 @@ use Rattle.protocol.specs.declared.Call.{Call}
 use Rattle.protocol.specs.declared.Call.the-variants.{Declare, Create, Join, Leave, Deliver}
 use Rattle.protocol.specs.declared.Reply.{Reply}
 use Rattle.protocol.specs.declared.Reply.the-variants.{Declared, Stepped}
-use Rattle.protocol.specs.State.{State, empty, wellFormed, inserted}
+use Rattle.protocol.specs.State.{State, empty, wellFormed}
 use Rattle.protocol.specs.Calls.{applyOf}
-use Rattle.protocol.specs.History.{History, history}
 
 -- the answers to a list of calls, one after the other
 abbrev pub answers : State → List Call → List (Coded Reply)

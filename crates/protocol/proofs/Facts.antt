@@ -1,26 +1,18 @@
 -- Well-formedness as facts, beside the test that says it; and what it is that a message is taken from those that wait. Assumes nothing.
-use mathlib.Core.Path.{_≡_, refl, sym, ap, subst}
-use mathlib.Core.Logic.{_⊎_, inl, inr, ⊎-elim, _↔_, _≢_}
-use mathlib.Core.Bool.{Bool, true, false, not, _&&_, _||_}
-use mathlib.Core.List.{List, [], _∷_, _++_, List·Memᴰ·head as here, List·Memᴰ·tail as there, List·Memᴰ·append-cases as in-part, List·Memᴰ·cases-cons as in-cons}
-use mathlib.Core.List.{Memᴰ·append-left as in-left, Memᴰ·append-right as in-right}
-use Prim.Native.Nat.{ℕ, suc, _+_, _≤_, _<_}
-use native.Mathlib.Omega.{arith}
-use lib.ListN.{length, getD, take, drop, length-append}
-use lib.Seq.{split-at}
-use lib.Dec.{T, leb, ltb, eqb}
+use mathlib.Core.Path.{_≡_, ap}
+use mathlib.Core.Logic.{_≢_}
+use mathlib.Core.Bool.{true, not, _&&_}
+use Prim.Native.Nat.{ℕ, _≤_, _<_}
+use lib.ListN.{length}
+use lib.Dec.{leb, eqb}
 use borrow.Author.Tests.{leb-true, le-leb, not-true, eqb-false, ne-eqb}
-use Rattle.truth.specs.Tests.{bit, count, any, every, everyBelow}
+use Rattle.truth.specs.Tests.{count, everyBelow}
 use Rattle.truth.proofs.Laws.{both}
-use Rattle.truth.proofs.TestLaws.{_∈_, every-in, all-pass, below-at, below-all, count-append}
-use Rattle.node.specs.declared.Status.{Status}
-use Rattle.node.specs.declared.Node.{Node}
+use Rattle.truth.proofs.TestLaws.{_∈_, every-in, all-pass, below-at, below-all}
 use Rattle.node.specs.declared.Message.{Message}
 use Rattle.node.specs.Shape.{capacity, nodeFits, messageFits}
-use Rattle.node.specs.Actions.{setRNak}
 use Rattle.node.proofs.FitLaws.{NodeFits, node-facts, node-fits}
 use Rattle.protocol.specs.State.{State, queueLimit, nodeAt, statusAt, keyAt, isDealingOf, keyIsNew, dealings, nodeIsWellFormed, wellFormed}
-use Rattle.protocol.specs.Calls.{messageAt, without}
 
 -- ---- the facts that the test says
 pub record WellFormed (s : State) : Type 0 where
@@ -64,39 +56,3 @@ tested s w =
         let new : keyIsNew s u ≡ true = below-all u _ (λ v j. ap not (ne-eqb _ _ (w .keys u v k j))) in
         let few = le-leb _ _ (w .dealing u k) in
         simp (fits, new, few)
-
--- ---- a message taken out, and the rest
-pub record Taken (ms : List Message) (m : Message) (rest : List Message) : Type 0 where
-  pub waits : m ∈ ms
-  pub left : (x : Message) → x ∈ rest → x ∈ ms
-  pub either : (x : Message) → x ∈ ms → (x ≡ m) ⊎ (x ∈ rest)
-  pub counted : (test : Message → Bool) → count test ms ≡ bit (test m) + count test rest
-  pub shorter : length ms ≡ suc (length rest)
-
-cut-out : (pre post : List Message) (m : Message) → Taken (pre ++ m ∷ post) m (pre ++ post)
-cut-out pre post m = record {
-  waits = in-right pre (here refl);
-  left = λ x i. ⊎-elim (λ j. in-left (m ∷ post) j) (λ j. in-right pre (there j)) (in-part pre i);
-  either = λ x i. ⊎-elim (λ j. inr (in-left post j)) (λ j. ⊎-elim (λ e. inl e) (λ k. inr (in-right pre k)) (in-cons j)) (in-part pre i);
-  counted = λ test. omega (arith, count-append test pre (m ∷ post), count-append test pre post);
-  shorter = omega (arith, length-append pre (m ∷ post), length-append pre post);
-}
-
--- any message that waits can be taken
-pub taken-out : {ms : List Message} {m : Message} → m ∈ ms → (rest : List Message) × Taken ms m rest
-taken-out (here {x = x} {xs = xs} e) = (xs, rw e (cut-out [] xs x))
-taken-out (there {x = x} {xs = xs} i) = let (rest, t) = taken-out i in (x ∷ rest, behind x t)
-  where
-    behind : {ms rest : List Message} {m : Message} (x : Message) → Taken ms m rest → Taken (x ∷ ms) m (x ∷ rest)
-    behind x t = record {
-      waits = there (t .waits);
-      left = λ y i. ⊎-elim (λ e. here e) (λ j. there (t .left y j)) (in-cons i);
-      either = λ y i. ⊎-elim (λ e. inr (here e)) (λ j. ⊎-elim (λ e. inl e) (λ k. inr (there k)) (t .either y j)) (in-cons i);
-      counted = λ test. omega (arith, t .counted test);
-      shorter = omega (arith, t .shorter);
-    }
-
-pub taken : (s : State) (place : ℕ) → place < length (s .messages) → Taken (s .messages) (messageAt s place) (without place (s .messages))
-taken s place h =
-    subst (λ (ms : List Message). Taken ms (messageAt s place) (without place (s .messages))) (sym (split-at (s .messages) place (setRNak 0 0) h))
-    (cut-out (take place (s .messages)) (drop (suc place) (s .messages)) (messageAt s place))

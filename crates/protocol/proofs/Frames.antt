@@ -1,30 +1,24 @@
 -- What a step leaves as it was. A step changes one node and the queue; most of the invariant then holds because the parts that it
 -- speaks of are the same before and after. Assumes nothing.
-use mathlib.Core.Path.{_≡_, refl, sym, ap, _∙_}
-use mathlib.Core.Logic.{_⊎_, inl, inr, ⊎-elim, _↔_, _≢_}
-use mathlib.Core.Bool.{Bool, true, false, not, _||_}
-use mathlib.Core.List.{List, [], _∷_, _++_, List·Memᴰ·head as here, List·Memᴰ·tail as there, List·Memᴰ·append-cases as in-part, List·Memᴰ·cases-cons as in-cons, List·Memᴰ·not-nil as in-nil}
-use Prim.Native.Nat.{ℕ, _≤_}
+use mathlib.Core.Path.{_≡_, sym, ap, _∙_}
+use mathlib.Core.Logic.{_≢_}
+use mathlib.Core.Bool.{Bool}
+use mathlib.Core.List.{List}
+use Prim.Native.Nat.{ℕ}
 use native.Mathlib.Omega.{arith}
 use native.Mathlib.Decide.{ℕ-discrete}
-use borrow.Author.Tests.{eq-eqb, ne-eqb, eqb-true}
-use lib.Dec.{eqb}
-use Rattle.truth.specs.Tests.{bit, count, any}
-use Rattle.truth.proofs.TestLaws.{_∈_, decided, not-both, neither, any-in, none-in, some-in, not-any, none-counted, bit-true, count-in}
+use Rattle.truth.specs.Tests.{any}
+use Rattle.truth.proofs.TestLaws.{_∈_, not-both}
 use Rattle.links.proofs.Circuit.{ring-kept, next-in}
-use Rattle.interval.proofs.Laws.{Between}
 use Rattle.node.specs.declared.Status.{Status}
 use Rattle.node.specs.declared.Status.the-variants.{Out, Ins, In, Del}
 use Rattle.node.specs.declared.Link.the-variants.{To}
-use Rattle.node.specs.declared.Seq.the-variants.{Is}
-use Rattle.node.specs.declared.Kind.{Kind}
-use Rattle.node.specs.declared.Kind.the-variants.{SetR, SetRAck, SetRNak, SetL}
 use Rattle.node.specs.declared.Node.{Node}
 use Rattle.node.specs.declared.Message.{Message}
-use Rattle.node.specs.Actions.{setR, setRAck, setRNak, setL}
-use Rattle.protocol.specs.State.{isAckTo, isDealingOf, isNotice, isAck, isRequest, dealings, isInserted}
-use Rattle.protocol.proofs.Facts.{Taken}
-use Rattle.protocol.proofs.Invariant.{Dealt, isMember, Member, ByJoiner, ByLeaver, Request, Dealings, Keeps, stored, coming, LeftLink, Order}
+use Rattle.node.specs.Actions.{setRAck, setL}
+use Rattle.protocol.specs.State.{isAckTo, isInserted}
+use Rattle.protocol.proofs.Fields.{statusOf}
+use Rattle.protocol.proofs.Invariant.{isMember, Member, Request, Keeps, stored, coming, LeftLink, Order}
 
 -- a status that waits for nothing
 abbrev pub Settled : Status → Type 0
@@ -35,6 +29,9 @@ settled-in = (λ e. let z : _≡_ {A = ℕ} 0 1 = cc in omega arith, λ e. let z
 
 pub settled-out : Settled Out
 settled-out = (λ e. let z : _≡_ {A = ℕ} 0 1 = cc in omega arith, λ e. let z : _≡_ {A = ℕ} 0 1 = cc in omega arith)
+
+pub ins-not-del : Ins ≢ Del
+ins-not-del e = let z : _≡_ {A = ℕ} 0 1 = cc in omega arith
 
 -- ---- node i stands as x, all others as they were
 pub record At (N : ℕ → Node) (i : ℕ) (x : Node) (N′ : ℕ → Node) : Type 0 where
@@ -49,79 +46,6 @@ unchanged {N} {N′} {i} at f e u = go (ℕ-discrete u i)
     go (yes d) = rw d (ap f (at .self) ∙ e)
     go (no d) = ap f (at .others u d)
 
--- ---- messages
--- two messages that a test tells apart
-pub apart : {x y : Message} (test : Message → Bool) → test x ≡ true → test y ≡ false → x ≢ y
-apart test t f e = not-both t (ap test e ∙ f)
-
-pub in-one : {x a : Message} (l : List Message) → x ∈ (l ++ a ∷ []) → (x ∈ l) ⊎ (x ≡ a)
-in-one l i = ⊎-elim (λ j. inl j) (λ j. ⊎-elim (λ e. inr e) (λ k. absurd (in-nil k)) (in-cons j)) (in-part l i)
-
-pub in-two : {x a b : Message} (l : List Message) → x ∈ (l ++ a ∷ b ∷ []) → (x ∈ l) ⊎ ((x ≡ a) ⊎ (x ≡ b))
-in-two l i = ⊎-elim (λ j. inl j) (λ j. ⊎-elim (λ e. inr (inl e)) (λ k. ⊎-elim (λ e. inr (inr e)) (λ z. absurd (in-nil z)) (in-cons k)) (in-cons j)) (in-part l i)
-
--- a test that the same members of two lists pass
-pub same-any : (test : Message → Bool) (l m : List Message) → ((x : Message) → test x ≡ true → x ∈ l → x ∈ m) → ((x : Message) → test x ≡ true → x ∈ m → x ∈ l) → any test l ≡ any test m
-same-any test l m to from = ⊎-elim (λ t. t ∙ sym (over t)) (λ f. f ∙ sym (not-any test m (λ x i. ⊎-elim (λ t. absurd (not-both (any-in test (from x t i) t) f)) (λ n. n) (decided (test x))))) (decided (any test l))
-  where
-    over : any test l ≡ true → any test m ≡ true
-    over t = let (x, i, e) = some-in test l t in any-in test (to x e i) e
-
--- ---- dealings
-dealings-most : (s : Status) → dealings s ≤ 1
-dealings-most Out = omega arith
-dealings-most Ins = omega arith
-dealings-most In = omega arith
-dealings-most Del = omega arith
-
-pub request-deals : (u p new e n : ℕ) → isDealingOf u (setR u p new e n) ≡ true
-request-deals u p new e n = rw (eq-eqb u u refl)
-
-pub ack-deals : (w u n : ℕ) → isDealingOf u (setRAck w u n) ≡ true
-ack-deals w u n = eq-eqb u u refl
-
-pub nak-deals : (w u : ℕ) → isDealingOf u (setRNak w u) ≡ true
-nak-deals w u = eq-eqb u u refl
-
-pub not-ack : (u : ℕ) (m : Message) → isDealingOf u m ≡ false → isAckTo u m ≡ false
-not-ack u m = go (m .kind) (m .sender) (m .to)
-  where
-    go : (k : Kind) (v w : ℕ) → isDealingOf u (record { sender = v; to = w; kind = k }) ≡ false → isAckTo u (record { sender = v; to = w; kind = k }) ≡ false
-    go (SetR new expected number) v w h = refl
-    go (SetRAck number) v w h = h
-    go SetRNak v w h = refl
-    go (SetL left number) v w h = refl
-
-pub ack-dealing : (u : ℕ) (m : Message) → isAckTo u m ≡ true → isDealingOf u m ≡ true
-ack-dealing u m a = ⊎-elim (λ t. t) (λ f. absurd (not-both a (not-ack u m f))) (decided (isDealingOf u m))
-
-module _ {N : ℕ → Node} {M : List Message} (dealt : Dealt N M) where
-  -- a node that is out or in has none
-  pub no-dealing : (u : ℕ) {x : Message} → dealings (N u .status) ≡ 0 → x ∈ M → isDealingOf u x ≡ false
-  no-dealing u e i = none-counted (isDealingOf u) (omega (arith, dealt .most u)) i
-
-  -- one that has one has no other
-  pub only-dealing : (u : ℕ) {m x : Message} {rest : List Message} → Taken M m rest → isDealingOf u m ≡ true → x ∈ rest → isDealingOf u x ≡ false
-  only-dealing u t d i = none-counted (isDealingOf u) (omega (arith, dealt .most u, dealings-most (N u .status), t .counted (isDealingOf u), bit-true d)) i
-
-  -- one that has one is ins or del
-  pub waits-for : (u : ℕ) {m : Message} → m ∈ M → isDealingOf u m ≡ true → (N u .status ≡ Ins) ⊎ (N u .status ≡ Del)
-  waits-for u {m} i d = go (N u .status) refl
-    where
-      go : (s : Status) → N u .status ≡ s → (N u .status ≡ Ins) ⊎ (N u .status ≡ Del)
-      go Out e = absurd (not-both d (no-dealing u (ap dealings e) i))
-      go Ins e = inl e
-      go In e = absurd (not-both d (no-dealing u (ap dealings e) i))
-      go Del e = inr e
-
-  -- a node whose one dealing is no SetRAck has no SetRAck waiting
-  pub no-ack : (u : ℕ) {m : Message} {rest : List Message} → Taken M m rest → isDealingOf u m ≡ true → isAckTo u m ≡ false → any (isAckTo u) M ≡ false
-  no-ack u {m} t d f = not-any (isAckTo u) M (λ x i. ⊎-elim (λ (e : x ≡ m). rw e f) (λ j. not-ack u x (only-dealing u t d j)) (t .either x i))
-
--- ---- acknowledgements that wait, where a message is taken that is none of u's
-pub acks-left : (u : ℕ) {M rest : List Message} {m : Message} → Taken M m rest → isAckTo u m ≡ false → any (isAckTo u) rest ≡ any (isAckTo u) M
-acks-left u {M} {rest} {m} t f = same-any (isAckTo u) rest M (λ x _ i. t .left x i) (λ x a i. ⊎-elim (λ (e : x ≡ m). absurd (not-both (rw e at a) f)) (λ j. j) (t .either x i))
-
 -- ---- parts of the invariant
 pub member-same : {s s′ : Status} {b b′ : Bool} → s′ ≡ s → b′ ≡ b → isInserted s′ b′ ≡ isInserted s b
 member-same e f = rw (e, f)
@@ -131,9 +55,9 @@ member-not-out N M u t e = not-both t (ap (λ s. isInserted s (any (isAckTo u) M
 
 pub request-same : {N N′ : ℕ → Node} {v p new e n : ℕ} → N′ v ≡ N v → N′ p .key ≡ N p .key → N′ e .key ≡ N e .key → Request N v p new e n → Request N′ v p new e n
 request-same {N} {N′} {v} {p} {new} {e} {n} same at-p at-e r = record {
-  by-joiner = λ h. let b = r .by-joiner (sym (ap (λ (x : Node). x .status) same) ∙ h) in
+  by-joiner = λ h. let b = r .by-joiner (sym (ap statusOf same) ∙ h) in
       record { itself = b .itself; left = rw same (b .left); right = rw same (b .right); number = rw same (b .number); between = rw (same, at-p, at-e) (b .between) };
-  by-leaver = λ h. let b = r .by-leaver (sym (ap (λ (x : Node). x .status) same) ∙ h) in
+  by-leaver = λ h. let b = r .by-leaver (sym (ap statusOf same) ∙ h) in
       record { right = rw same (b .right); another = b .another; expected = b .expected; number = rw same (b .number) };
 }
 

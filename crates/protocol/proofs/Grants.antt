@@ -2,11 +2,10 @@
 -- right link; a leaver is taken out of it. Either way one link into one node q is new, the number kept for it is the next one, and the
 -- notice posted to q says so. Assumes nothing.
 use mathlib.Core.Path.{_≡_, refl, sym, ap, _∙_}
-use mathlib.Core.Logic.{_⊎_, inl, inr, ⊎-elim, _↔_, _≢_}
-use mathlib.Core.Bool.{Bool, true, false, not}
+use mathlib.Core.Logic.{_⊎_, inl, inr, ⊎-elim, _≢_}
+use mathlib.Core.Bool.{Bool, true, false}
 use mathlib.Core.List.{List, [], _∷_, _++_, Memᴰ·append-left as in-left, Memᴰ·append-right as in-right}
 use Prim.Native.Nat.{ℕ}
-use native.Mathlib.Omega.{arith}
 use native.Mathlib.Decide.{ℕ-discrete}
 use borrow.Author.Tests.{eq-eqb, ne-eqb}
 use Rattle.truth.specs.Tests.{any}
@@ -18,17 +17,18 @@ use Rattle.links.proofs.Circuit.{ring-kept, next-in, one-predecessor}
 use Rattle.links.proofs.Change.{insert, remove}
 use Rattle.links.proofs.Trails.{same-end}
 use Rattle.node.specs.declared.Status.{Status}
-use Rattle.node.specs.declared.Status.the-variants.{Out, Ins, In, Del}
+use Rattle.node.specs.declared.Status.the-variants.{Ins, In, Del}
 use Rattle.node.specs.declared.Link.the-variants.{To}
 use Rattle.node.specs.declared.Seq.the-variants.{Is}
 use Rattle.node.specs.declared.Kind.the-variants.{SetRAck, SetL}
 use Rattle.node.specs.declared.Node.{Node}
 use Rattle.node.specs.declared.Message.{Message}
 use Rattle.node.specs.Actions.{setR, setRAck, setL, relinked}
-use Rattle.protocol.specs.State.{isAck, isAckTo, isDealingOf, isNotice, isRequest, isInserted}
-use Rattle.protocol.proofs.Facts.{Taken}
-use Rattle.protocol.proofs.Invariant.{Dealt, isMember, Member, ByJoiner, ByLeaver, Request, Dealings, Keeps, stored, coming, LeftLink, Invariant}
-use Rattle.protocol.proofs.Frames.{At, Settled, settled-in, unchanged, apart, in-two, same-any, request-deals, ack-deals, only-dealing, no-ack, waits-for, acks-left, member-same, request-same, keeps-same, left-same}
+use Rattle.protocol.specs.State.{isAck, isAckTo, isNotice, isRequest}
+use Rattle.protocol.proofs.Waiting.{Taken, Dealt, apart, in-two, same-any, request-deals, ack-deals, only-dealing, no-ack, waits-for, acks-left}
+use Rattle.protocol.proofs.Fields.{statusOf, keyOf, leftOf, rightOf, lseqOf, rseqOf, kindOf, toOf}
+use Rattle.protocol.proofs.Invariant.{isMember, Member, ByJoiner, ByLeaver, Request, Dealings, Keeps, stored, coming, LeftLink, Invariant}
+use Rattle.protocol.proofs.Frames.{At, settled-in, ins-not-del, unchanged, member-same, request-same, keeps-same, left-same}
 
 -- node p has granted v's request: a notice (a, k) to q and the answer l to v have come to those that wait
 pub record Granted (rest M′ : List Message) (p v q a k l : ℕ) : Type 0 where
@@ -52,16 +52,16 @@ granted rest p v q a k l = record {
 }
   where
     same-notice : (w u b n : ℕ) → setL w u b n ≡ setL p q a k → (u ≡ q) × (b ≡ a) × (n ≡ k)
-    same-notice w u b n e = let f : SetL b n ≡ SetL a k = ap (λ (y : Message). y .kind) e in (ap (λ (y : Message). y .to) e, (cc), (cc))
+    same-notice w u b n e = let f : SetL b n ≡ SetL a k = ap kindOf e in (ap toOf e, (cc), (cc))
 
     same-ack : (w u n : ℕ) → setRAck w u n ≡ setRAck p v l → (u ≡ v) × (n ≡ l)
-    same-ack w u n e = let f : SetRAck n ≡ SetRAck l = ap (λ (y : Message). y .kind) e in (ap (λ (y : Message). y .to) e, (cc))
+    same-ack w u n e = let f : SetRAck n ≡ SetRAck l = ap kindOf e in (ap toOf e, (cc))
 
 -- ---- what both grants have in common
 module _ {N N′ : ℕ → Node} {M M′ rest : List Message} {told joins : ℕ → Bool} {v p new e n q a k l : ℕ} (dealt : Dealt N M) (inv : Invariant N M told joins)
     (t : Taken M (setR v p new e n) rest) (g : Granted rest M′ p v q a k l) (is-in : N p .status ≡ In) (at : At N p (relinked (N p) new n) N′) where
   status : (u : ℕ) → N′ u .status ≡ N u .status
-  status = unchanged at (λ (y : Node). y .status) refl
+  status = unchanged at statusOf refl
 
   granting : Member N M p
   granting = member-same is-in refl
@@ -84,7 +84,7 @@ module _ {N N′ : ℕ → Node} {M M′ rest : List Message} {told joins : ℕ 
   }
     where
       keys : (u : ℕ) → N′ u .key ≡ N u .key
-      keys = unchanged at (λ (y : Node). y .key) refl
+      keys = unchanged at keyOf refl
 
       request : (w u b d m : ℕ) → setR w u b d m ∈ M → Dec (w ≡ p) → Request N′ w u b d m
       request w u b d m j (yes f) = record {
@@ -101,12 +101,12 @@ module _ {N N′ : ℕ → Node} {M M′ rest : List Message} {told joins : ℕ 
 
   -- the links into other nodes than q
   other-link : (w u R : ℕ) → u ≢ q → LeftLink N M w u R → LeftLink N′ M′ w u R
-  other-link w u R d = left-same (unchanged at (λ (y : Node). y .lseq) refl u) (unchanged at (λ (y : Node). y .left) refl u)
+  other-link w u R d = left-same (unchanged at lseqOf refl u) (unchanged at leftOf refl u)
       (λ x b m j. ⊎-elim (λ i. t .left _ i) (λ z. absurd (d (z .0))) (g .notices x u b m j))
       (λ x b m j. g .still _ (⊎-elim (λ f. absurd (apart (λ y. isNotice (y .kind)) refl refl f)) (λ i. i) (t .either _ j)))
 
   other-keeps : (w R : ℕ) → w ≢ p → w ≢ v → Keeps N′ M′ w R → Keeps N M w R
-  other-keeps w R dp dv = keeps-same (status w) (ap (λ (y : Node). y .rseq) (at .others w dp)) (λ x j. ⊎-elim (λ i. t .left _ i) (λ z. absurd (dv (z .0))) (g .acks x w R j))
+  other-keeps w R dp dv = keeps-same (status w) (ap rseqOf (at .others w dp)) (λ x j. ⊎-elim (λ i. t .left _ i) (λ z. absurd (dv (z .0))) (g .acks x w R j))
 
   -- the new link into q, from a, where the old one had the number R
   new-link : (o R : ℕ) → k ≡ nextSeq R → LeftLink N M o q R → LeftLink N′ M′ a q k
@@ -119,7 +119,7 @@ module _ {N N′ : ℕ → Node} {M M′ rest : List Message} {told joins : ℕ 
   }
     where
       lseq : N′ q .lseq ≡ N q .lseq
-      lseq = unchanged at (λ (y : Node). y .lseq) refl q
+      lseq = unchanged at lseqOf refl q
 
       passed : (m : ℕ) → Newer m (nextSeq R) → Newer m R
       passed m h = newer-transitive m (nextSeq R) R h (next-newer R)
@@ -133,7 +133,7 @@ module _ {N N′ : ℕ → Node} {M M′ rest : List Message} {told told′ join
     dealings = dealings-kept dealt inv t g is-in at e-member (λ _. own);
     order = record {
       order = w .order;
-      ring = ring-kept (w .ring) (λ u _. unchanged at (λ (y : Node). y .key) refl u) (λ u _. refl);
+      ring = ring-kept (w .ring) (λ u _. unchanged at keyOf refl u) (λ u _. refl);
       members = λ u. (λ j. to u (ℕ-discrete u v) (w .members u .0 j), λ m. w .members u .1 (from u m (ℕ-discrete u v)));
       as-told = λ u. as-told u (ℕ-discrete u v);
       lefts = λ x u R m r j. lefts x u R m r j (ℕ-discrete x v) (ℕ-discrete x p);
@@ -165,13 +165,13 @@ module _ {N N′ : ℕ → Node} {M M′ rest : List Message} {told told′ join
       e-member = inv .order .members e .0 (next-in (inv .order .ring) p-in right)
 
       right-v : N′ v .right ≡ To e
-      right-v = ap (λ (y : Node). y .right) (at .others v v-not-p) ∙ asked .right
+      right-v = ap rightOf (at .others v v-not-p) ∙ asked .right
 
       right-p : N′ p .right ≡ To v
-      right-p = ap (λ (y : Node). y .right) (at .self)
+      right-p = ap rightOf (at .self)
 
       w : With (λ u. N u .key) (λ u. N′ u .right) (inv .order .order) v
-      w = insert (inv .order .ring) p-in (λ j. not-both (inv .order .members v .0 j) not-yet) right right-p right-v (λ m d _. ap (λ (y : Node). y .right) (at .others m d)) (asked .between)
+      w = insert (inv .order .ring) p-in (λ j. not-both (inv .order .members v .0 j) not-yet) right right-p right-v (λ m d _. ap rightOf (at .others m d)) (asked .between)
 
       to : (u : ℕ) → Dec (u ≡ v) → (u ∈ inv .order .order) ⊎ (u ≡ v) → Member N′ M′ u
       to u (yes d) s = ap (isMember N′ M′) d ∙ own
@@ -192,7 +192,7 @@ module _ {N N′ : ℕ → Node} {M M′ rest : List Message} {told told′ join
 
       -- the granting node's is the joiner's left number
       granting-keeps : (R : ℕ) → Keeps N′ M′ p R → R ≡ N v .lseq
-      granting-keeps R (stored f h) = let same : Is n ≡ Is R = sym (ap (λ (y : Node). y .rseq) (at .self)) ∙ h in let z : R ≡ n = cc in z ∙ asked .number
+      granting-keeps R (stored f h) = let same : Is n ≡ Is R = sym (ap rseqOf (at .self)) ∙ h in let z : R ≡ n = cc in z ∙ asked .number
       granting-keeps R (coming h x j) = absurd (settled-in .0 (sym (status dealt inv t g is-in at p ∙ is-in) ∙ h))
 
       no-notice : (x b m : ℕ) → ¬ (setL x v b m ∈ M′)
@@ -200,12 +200,12 @@ module _ {N N′ : ℕ → Node} {M M′ rest : List Message} {told told′ join
 
       to-joiner : (R : ℕ) → R ≡ N v .lseq → LeftLink N′ M′ p v R
       to-joiner R h =
-          let lseq : N′ v .lseq ≡ R = unchanged at (λ (y : Node). y .lseq) refl v ∙ sym h in
+          let lseq : N′ v .lseq ≡ R = unchanged at lseqOf refl v ∙ sym h in
           record {
             reached = rw lseq (newer-irreflexive R);
             noticed = λ x b m j. absurd (no-notice x b m j);
             named = λ x b j. absurd (no-notice x b R j);
-            settled = λ _. unchanged at (λ (y : Node). y .left) refl v ∙ asked .left;
+            settled = λ _. unchanged at leftOf refl v ∙ asked .left;
             awaited = λ d. absurd (d lseq);
           }
 
@@ -219,7 +219,7 @@ module _ {N N′ : ℕ → Node} {M M′ rest : List Message} {told told′ join
           rw (f, at-v) (to-joiner R (granting-keeps R (rw f at j)))
       lefts x u R m r j (no d) (no f) =
           let member : Member N M x = sym (same x d) ∙ m in
-          let before : N x .right ≡ To u = sym (ap (λ (y : Node). y .right) (at .others x f)) ∙ r in
+          let before : N x .right ≡ To u = sym (ap rightOf (at .others x f)) ∙ r in
           other-link dealt inv t g is-in at x u R
           (λ h. f (one-predecessor (inv .order .ring) (inv .order .members x .1 member) p-in (before ∙ ap To h) right))
           (inv .order .lefts x u R member before (other-keeps dealt inv t g is-in at x R f d j))
@@ -234,16 +234,13 @@ module _ {N N′ : ℕ → Node} {M M′ rest : List Message} {told told′ join
     dealings = dealings-kept dealt inv t g is-in at new-member (λ h. absurd (ins-not-del (sym h ∙ del)));
     order = record {
       order = w .order;
-      ring = ring-kept (w .ring) (λ u _. unchanged at (λ (y : Node). y .key) refl u) (λ u _. refl);
+      ring = ring-kept (w .ring) (λ u _. unchanged at keyOf refl u) (λ u _. refl);
       members = λ u. (λ j. let s = w .members u .0 j in same u (s .1) ∙ inv .order .members u .0 (s .0), λ m. w .members u .1 (from u m (ℕ-discrete u v)));
       as-told = λ u. as-told u (ℕ-discrete u v);
       lefts = λ x u R m r j. lefts x u R m r j (ℕ-discrete x v) (ℕ-discrete x p);
     };
   }
     where
-      ins-not-del : Ins ≢ Del
-      ins-not-del h = let z : _≡_ {A = ℕ} 0 1 = cc in omega arith
-
       del : N v .status ≡ Del
       del = ⊎-elim (λ h. absurd (another (inv .dealings .requests v p new e n (t .waits) .by-joiner h .itself))) (λ h. h) (waits-for dealt v (t .waits) (request-deals v p new e n))
 
@@ -269,10 +266,10 @@ module _ {N N′ : ℕ → Node} {M M′ rest : List Message} {told told′ join
       new-member = inv .order .members new .0 (next-in (inv .order .ring) v-in (asked .right))
 
       right-p : N′ p .right ≡ To new
-      right-p = ap (λ (y : Node). y .right) (at .self)
+      right-p = ap rightOf (at .self)
 
       w : Without (λ u. N u .key) (λ u. N′ u .right) (inv .order .order) v
-      w = remove (inv .order .ring) p-in v-in (right ∙ ap To (asked .expected)) (asked .right) right-p (λ m d _. ap (λ (y : Node). y .right) (at .others m d))
+      w = remove (inv .order .ring) p-in v-in (right ∙ ap To (asked .expected)) (asked .right) right-p (λ m d _. ap rightOf (at .others m d))
 
       from : (u : ℕ) → Member N′ M′ u → Dec (u ≡ v) → (u ∈ inv .order .order) × (u ≢ v)
       from u m (yes d) = absurd (not-both m (ap (isMember N′ M′) d ∙ gone))
@@ -283,7 +280,7 @@ module _ {N N′ : ℕ → Node} {M M′ rest : List Message} {told told′ join
       as-told u (no d) = others-told u d ∙ inv .order .as-told u ∙ sym (same u d)
 
       granting-keeps : (R : ℕ) → Keeps N′ M′ p R → R ≡ n
-      granting-keeps R (stored f h) = let same : Is n ≡ Is R = sym (ap (λ (y : Node). y .rseq) (at .self)) ∙ h in cc
+      granting-keeps R (stored f h) = let same : Is n ≡ Is R = sym (ap rseqOf (at .self)) ∙ h in cc
       granting-keeps R (coming h x j) = absurd (settled-in .0 (sym (status dealt inv t g is-in at p ∙ is-in) ∙ h))
 
       lefts : (x u R : ℕ) → Member N′ M′ x → N′ x .right ≡ To u → Keeps N′ M′ x R → Dec (x ≡ v) → Dec (x ≡ p) → LeftLink N′ M′ x u R
@@ -294,7 +291,7 @@ module _ {N N′ : ℕ → Node} {M M′ rest : List Message} {told told′ join
           rw (f, at-new, kept) (new-link dealt inv t g is-in at v R₀ (asked .number R₀ (number del)) (inv .order .lefts v new R₀ still (asked .right) (stored (λ h. ins-not-del (sym h ∙ del)) (number del))))
       lefts x u R m r j (no d) (no f) =
           let member : Member N M x = sym (same x d) ∙ m in
-          let before : N x .right ≡ To u = sym (ap (λ (y : Node). y .right) (at .others x f)) ∙ r in
+          let before : N x .right ≡ To u = sym (ap rightOf (at .others x f)) ∙ r in
           other-link dealt inv t g is-in at x u R
           (λ h. d (one-predecessor (inv .order .ring) (inv .order .members x .1 member) v-in (before ∙ ap To h) (asked .right)))
           (inv .order .lefts x u R member before (other-keeps dealt inv t g is-in at x R f d j))

@@ -5,8 +5,8 @@ use mathlib.Core.Path.{_≡_}
 use mathlib.Core.Logic.{_↔_, _≢_}
 use mathlib.Core.Bool.{Bool, true, false}
 use mathlib.Core.List.{List}
-use Prim.Native.Nat.{ℕ, _≤_}
-use Rattle.truth.specs.Tests.{count, any}
+use Prim.Native.Nat.{ℕ}
+use Rattle.truth.specs.Tests.{any}
 use Rattle.truth.proofs.TestLaws.{_∈_}
 use Rattle.interval.proofs.Laws.{Between}
 use Rattle.sequence.specs.Sequence.{nextSeq}
@@ -18,11 +18,7 @@ use Rattle.node.specs.declared.Seq.the-variants.{Is}
 use Rattle.node.specs.declared.Node.{Node}
 use Rattle.node.specs.declared.Message.{Message}
 use Rattle.node.specs.Actions.{setR, setRAck, setL}
-use Rattle.protocol.specs.State.{isAckTo, isDealingOf, dealings, isInserted}
-
--- no node has more dealings than its status allows
-pub record Dealt (N : ℕ → Node) (M : List Message) : Type 0 where
-  pub most : (u : ℕ) → count (isDealingOf u) M ≤ dealings (N u .status)
+use Rattle.protocol.specs.State.{isAckTo, dealings, isInserted}
 
 abbrev pub isMember : (ℕ → Node) → List Message → ℕ → Bool
 isMember N M u = isInserted (N u .status) (any (isAckTo u) M)

@@ -23,7 +23,8 @@ use Rattle.node.proofs.FitLaws.{NodeFits, MessageFits, message-facts, PostsFit,
 use Rattle.protocol.specs.declared.Call.{Call}
 use Rattle.protocol.specs.State.{State, queueLimit, nodeAt, statusAt, keyAt, isDealingOf, dealings}
 use Rattle.protocol.specs.Calls.{Result, peerAt}
-use Rattle.protocol.proofs.Facts.{WellFormed, Taken}
+use Rattle.protocol.proofs.Waiting.{Taken}
+use Rattle.protocol.proofs.Facts.{WellFormed}
 use Rattle.protocol.proofs.Changes.{Creates, Joins, LeavesAlone, Leaves, Grants}
 use Rattle.protocol.proofs.Changes.{Act, drops, lets-in, lets-go, denies, joins, goes, stays-out, stays-in, takes, ignores}
 use Rattle.protocol.proofs.Changes.{Change, refuses, declares, creates, asks, goes-alone, leaves, delivers}

@@ -1,4 +1,6 @@
+pub mod Fields
 pub mod Facts
+pub mod Waiting
 pub mod Changes
 pub mod Cases
 pub mod Moves

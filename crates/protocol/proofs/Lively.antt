@@ -10,7 +10,7 @@ use Prim.Native.Nat.{ℕ, zero, suc, _+_, _*_, _≤_, _<_}
 use native.Mathlib.Omega.{arith}
 use native.Mathlib.Decide.{ℕ-discrete}
 use lib.ListN.{length, getD}
-use lib.Dec.{T, ltb}
+use lib.Dec.{ltb}
 use borrow.Author.Tests.{ltb-true, ltb-false, lt-ltb, eq-eqb, not-true}
 use Rattle.truth.specs.Tests.{bit, count}
 use Rattle.truth.proofs.Laws.{true-is-not-false}
@@ -23,7 +23,7 @@ use Rattle.node.specs.declared.Node.{Node}
 use Rattle.node.specs.declared.Kind.{Kind}
 use Rattle.node.specs.declared.Kind.the-variants.{SetR, SetRAck, SetRNak, SetL}
 use Rattle.node.specs.declared.Message.{Message}
-use Rattle.node.specs.Shape.{capacity, isOut, wellFormed as nodeIsSound, deliverable}
+use Rattle.node.specs.Shape.{isOut, wellFormed as nodeIsSound, deliverable}
 use Rattle.node.specs.Actions.{Effect, setR, setRAck, setRNak, setL, grants, onSetRAck, onSetRNak, onKind, receiveOf}
 use Rattle.node.proofs.FitLaws.{message-facts, well-formed-among, deliverable-among}
 use Rattle.protocol.specs.declared.Call.{Call}
@@ -32,7 +32,8 @@ use Rattle.protocol.specs.State.{State, queueLimit, nodeAt, statusAt, is
 use Rattle.protocol.specs.Calls.{Result, stepped, isFull, messageAt, wouldGrant, isGrantable, deliverRules, applyOf}
 use Rattle.protocol.specs.History.{accepted}
 use Rattle.protocol.specs.Claim.{Delivers, delivered, load, Lively, SteadyClaim}
-use Rattle.protocol.proofs.Facts.{WellFormed, formed, tested, Taken, taken}
+use Rattle.protocol.proofs.Waiting.{Taken, taken}
+use Rattle.protocol.proofs.Facts.{WellFormed, formed, tested}
 use Rattle.protocol.proofs.Changes.{Act, drops, lets-in, lets-go, denies, joins, goes, stays-out, stays-in, takes, ignores}
 use Rattle.protocol.proofs.Changes.{Change, refuses, declares, creates, asks, goes-alone, leaves, delivers}
 use Rattle.protocol.proofs.Cases.{change}

@@ -19,6 +19,7 @@ use Rattle.node.specs.Shape.{declaredOf, messageFits}
 use Rattle.node.proofs.FitLaws.{NodeFits, message-facts, PostsFit, fits-more, message-fits-more}
 use Rattle.protocol.specs.State.{State, queueLimit, nodeAt, statusAt, keyAt, isDealingOf, dealings}
 use Rattle.protocol.specs.Calls.{declaring}
+use Rattle.protocol.proofs.Fields.{keyOf}
 use Rattle.protocol.proofs.Facts.{WellFormed}
 use Rattle.protocol.proofs.Changes.{Declares}
 
@@ -70,8 +71,8 @@ moved-kept {s} {i} {x} {ms} w h = record {
     node u (no d) k = rw (other u d) (w .node u k)
 
     key : (u : ℕ) → Dec (u ≡ i) → keyAt after u ≡ keyAt s u
-    key u (yes e) = rw e (ap (λ (n : Node). n .key) same ∙ h .key)
-    key u (no d) = ap (λ (n : Node). n .key) (other u d)
+    key u (yes e) = rw e (ap keyOf same ∙ h .key)
+    key u (no d) = ap keyOf (other u d)
 
     dealing : (u : ℕ) → Dec (u ≡ i) → u < length (s .nodes) → count (isDealingOf u) ms ≤ dealings (statusAt after u)
     dealing u (yes e) k = rw e (omega (arith, h .dealing, ap (λ (n : Node). dealings (n .status)) same))
@@ -125,11 +126,11 @@ declare-kept {s} {key} w h = record {
     keys : (u v : ℕ) → u < suc (length (s .nodes)) → v < u → Dec (u ≡ length (s .nodes)) → keyAt after v ≢ keyAt after u
     keys u v k j (yes e) =
         let below : v < length (s .nodes) = omega arith in
-        let its : keyAt after u ≡ key = rw e (ap (λ (x : Node). x .key) new) in
-        λ same. h .is-new v below (sym (ap (λ (x : Node). x .key) (old v below)) ∙ same ∙ its)
+        let its : keyAt after u ≡ key = rw e (ap keyOf new) in
+        λ same. h .is-new v below (sym (ap keyOf (old v below)) ∙ same ∙ its)
     keys u v k j (no d) =
         let below : u < length (s .nodes) = omega arith in
-        λ same. w .keys u v below j (sym (ap (λ (x : Node). x .key) (old v (omega arith))) ∙ same ∙ ap (λ (x : Node). x .key) (old u below))
+        λ same. w .keys u v below j (sym (ap keyOf (old v (omega arith))) ∙ same ∙ ap keyOf (old u below))
 
     dealing : (u : ℕ) → u < suc (length (s .nodes)) → Dec (u ≡ length (s .nodes)) → count (isDealingOf u) (s .messages) ≤ dealings (statusAt after u)
     dealing u k (yes e) = rw e (omega (arith, unconcerned (length (s .nodes)) (length (s .nodes)) (omega arith) (s .messages) (w .message)))

@@ -2,27 +2,27 @@
 -- the predecessor, or a lower one, and then the notice with that number still waits. If it is old, it was not that notice.
 -- Assumes nothing.
 use mathlib.Core.Path.{_≡_, refl, sym, ap, _∙_}
-use mathlib.Core.Logic.{_⊎_, inl, inr, ⊎-elim, _≢_}
+use mathlib.Core.Logic.{_⊎_, ⊎-elim, _≢_}
 use mathlib.Core.Bool.{Bool, true, false}
 use mathlib.Core.List.{List}
 use Prim.Native.Nat.{ℕ}
-use native.Mathlib.Omega.{arith}
 use native.Mathlib.Decide.{ℕ-discrete}
 use Rattle.truth.proofs.TestLaws.{_∈_, holds, is-true, not-both}
 use Rattle.sequence.specs.Sequence.{newer}
-use Rattle.sequence.proofs.Laws.{Newer, newer-irreflexive, newer-total}
+use Rattle.sequence.proofs.Laws.{Newer, newer-total}
 use Rattle.node.specs.declared.Status.the-variants.{Ins}
 use Rattle.node.specs.declared.Link.the-variants.{To}
 use Rattle.node.specs.declared.Kind.the-variants.{SetL}
 use Rattle.node.specs.declared.Node.{Node}
 use Rattle.node.specs.declared.Message.{Message}
 use Rattle.node.specs.Actions.{setR, setL, leftSet}
-use Rattle.protocol.proofs.Facts.{Taken, taken-out}
-use Rattle.protocol.proofs.Invariant.{Dealt, isMember, Request, LeftLink, Invariant}
-use Rattle.protocol.proofs.Frames.{At, unchanged, request-deals, no-ack, acks-left, member-same, request-same, keeps-same, left-same, SameRing, same-order}
+use Rattle.protocol.proofs.Waiting.{Taken, taken-out, Dealt, request-deals, no-ack, acks-left}
+use Rattle.protocol.proofs.Fields.{statusOf, keyOf, leftOf, rightOf, lseqOf, rseqOf, kindOf, toOf}
+use Rattle.protocol.proofs.Invariant.{isMember, Request, LeftLink, Invariant}
+use Rattle.protocol.proofs.Frames.{At, unchanged, member-same, request-same, keeps-same, left-same, same-order}
 
 same-number : {w u a n p i b k : ℕ} → setL w u a n ≡ setL p i b k → n ≡ k
-same-number {a} {n} {b} {k} e = let f : SetL a n ≡ SetL b k = ap (λ (y : Message). y .kind) e in cc
+same-number {a} {n} {b} {k} e = let f : SetL a n ≡ SetL b k = ap kindOf e in cc
 
 module _ {N N′ : ℕ → Node} {M rest : List Message} {told joins : ℕ → Bool} {p i a n : ℕ} {x : Node}
     (dealt : Dealt N M) (inv : Invariant N M told joins) (t : Taken M (setL p i a n) rest) (at : At N i x N′) where
@@ -39,17 +39,17 @@ module _ {N N′ : ℕ → Node} {M rest : List Message} {told joins : ℕ → B
     order = same-order (record {
       member = member;
       key = λ u _. keys u;
-      right = λ u _. unchanged at (λ (y : Node). y .right) right u;
-      keeps = λ v R _ k. keeps-same (status v) (unchanged at (λ (y : Node). y .rseq) rseq v) (λ w j. t .left _ j) k;
+      right = λ u _. unchanged at rightOf right u;
+      keeps = λ v R _ k. keeps-same (status v) (unchanged at rseqOf rseq v) (λ w j. t .left _ j) k;
       lefts = λ v u R _ k. lefts v u R k (ℕ-discrete u i);
     }) (inv .order);
   }
     where
       status : (u : ℕ) → N′ u .status ≡ N u .status
-      status = unchanged at (λ (y : Node). y .status) st
+      status = unchanged at statusOf st
 
       keys : (u : ℕ) → N′ u .key ≡ N u .key
-      keys = unchanged at (λ (y : Node). y .key) key
+      keys = unchanged at keyOf key
 
       member : (u : ℕ) → isMember N′ rest u ≡ isMember N M u
       member u = member-same (status u) (acks-left u t refl)
@@ -68,10 +68,10 @@ module _ {N N′ : ℕ → Node} {M rest : List Message} {told joins : ℕ → B
             by-joiner = λ h. absurd (not-joiner q new e k j (sym (status i) ∙ h));
             by-leaver = λ h. let b = inv .dealings .requests i q new e k j .by-leaver (sym (status i) ∙ h) in
                 record {
-                  right = unchanged at (λ (y : Node). y .right) right i ∙ b .right;
+                  right = unchanged at rightOf right i ∙ b .right;
                   another = b .another;
                   expected = b .expected;
-                  number = λ l f. b .number l (sym (unchanged at (λ (y : Node). y .rseq) rseq i) ∙ f);
+                  number = λ l f. b .number l (sym (unchanged at rseqOf rseq i) ∙ f);
                 };
           }
       request v q new e k j (no d) = request-same (at .others v d) (keys q) (keys e) (inv .dealings .requests v q new e k (t .left _ j))
@@ -79,8 +79,8 @@ module _ {N N′ : ℕ → Node} {M rest : List Message} {told joins : ℕ → B
       lefts : (v u R : ℕ) → LeftLink N M v u R → Dec (u ≡ i) → LeftLink N′ rest v u R
       lefts v u R k (yes d) = rw d (link v R (rw d at k))
       lefts v u R k (no d) =
-          left-same (ap (λ (y : Node). y .lseq) (at .others u d)) (ap (λ (y : Node). y .left) (at .others u d)) (λ w b l j. t .left _ j)
-          (λ w b l j. ⊎-elim (λ e. absurd (d (ap (λ (y : Message). y .to) e))) (λ r. r) (t .either _ j)) k
+          left-same (ap lseqOf (at .others u d)) (ap leftOf (at .others u d)) (λ w b l j. t .left _ j)
+          (λ w b l j. ⊎-elim (λ e. absurd (d (ap toOf e))) (λ r. r) (t .either _ j)) k
 
 -- "if its number is greater than the left number, take both"
 pub takes-kept : {N N′ : ℕ → Node} {M rest : List Message} {told joins : ℕ → Bool} {p i a n : ℕ} → Dealt N M → Invariant N M told joins
@@ -88,14 +88,14 @@ pub takes-kept : {N N′ : ℕ → Node} {M rest : List Message} {told joins : �
 takes-kept {N} {N′} {M} {rest} {p = p} {i} {a} {n} dealt inv t new at = heard dealt inv t at refl refl refl refl link
   where
     lseq : N′ i .lseq ≡ n
-    lseq = ap (λ (y : Node). y .lseq) (at .self)
+    lseq = ap lseqOf (at .self)
 
     link : (v R : ℕ) → LeftLink N M v i R → LeftLink N′ rest v i R
     link v R k = record {
       reached = rw lseq (k .noticed p a n (t .waits));
       noticed = λ w b l j. k .noticed w b l (t .left _ j);
       named = λ w b j. k .named w b (t .left _ j);
-      settled = λ e. ap (λ (y : Node). y .left) (at .self) ∙ ap To (k .named p a (rw (sym lseq ∙ e) at (t .waits)));
+      settled = λ e. ap leftOf (at .self) ∙ ap To (k .named p a (rw (sym lseq ∙ e) at (t .waits)));
       awaited = λ d.
           let (w, b, j) = k .awaited (λ e. k .noticed p a n (t .waits) (rw e at (holds new))) in
           (w, b, ⊎-elim (λ e. absurd (d (lseq ∙ sym (same-number e)))) (λ l. l) (t .either _ j));
@@ -107,7 +107,7 @@ pub ignores-kept : {N N′ : ℕ → Node} {M rest : List Message} {told joins :
 ignores-kept {N} {N′} {M} {rest} {p = p} {i} {a} {n} dealt inv t old at = heard dealt inv t at refl refl refl refl link
   where
     lseq : N′ i .lseq ≡ N i .lseq
-    lseq = ap (λ (y : Node). y .lseq) (at .self)
+    lseq = ap lseqOf (at .self)
 
     -- it is not the notice that is awaited
     late : (R : ℕ) → ¬ Newer (N i .lseq) R → N i .lseq ≢ R → R ≢ n
@@ -121,7 +121,7 @@ ignores-kept {N} {N′} {M} {rest} {p = p} {i} {a} {n} dealt inv t old at = hear
       reached = rw lseq (k .reached);
       noticed = λ w b l j. k .noticed w b l (t .left _ j);
       named = λ w b j. k .named w b (t .left _ j);
-      settled = λ e. ap (λ (y : Node). y .left) (at .self) ∙ k .settled (sym lseq ∙ e);
+      settled = λ e. ap leftOf (at .self) ∙ k .settled (sym lseq ∙ e);
       awaited = λ d.
           let (w, b, j) = k .awaited (λ e. d (lseq ∙ e)) in
           (w, b, ⊎-elim (λ e. absurd (late R (k .reached) (λ f. d (lseq ∙ f)) (same-number e))) (λ l. l) (t .either _ j));

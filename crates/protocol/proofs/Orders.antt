@@ -1,21 +1,16 @@
 -- The invariant holds after a declaration, a creation, a join and a leave. A join or leave that posts a request leaves everyone
 -- inserted who was; a creation makes a ring of one, and a node that goes out alone was a ring of one. Assumes nothing.
 use mathlib.Core.Path.{_≡_, refl, sym, ap, _∙_}
-use mathlib.Core.Logic.{_⊎_, inl, inr, ⊎-elim, _≢_}
-use mathlib.Core.Bool.{Bool, true, false, not}
+use mathlib.Core.Logic.{_⊎_, ⊎-elim, _≢_}
+use mathlib.Core.Bool.{Bool, true, false}
 use mathlib.Core.List.{List, [], _∷_, _++_, Memᴰ·append-left as in-left}
 use Prim.Native.Nat.{ℕ}
-use native.Mathlib.Omega.{arith}
 use native.Mathlib.Decide.{ℕ-discrete}
 use borrow.Author.Tests.{eq-eqb}
 use Rattle.truth.specs.Tests.{any}
 use Rattle.truth.proofs.TestLaws.{_∈_, not-both, none-in, not-any}
 use Rattle.interval.proofs.Laws.{Between}
-use Rattle.sequence.specs.Sequence.{firstSeq, nextSeq}
-use Rattle.sequence.proofs.Laws.{newer-irreflexive}
-use Rattle.links.proofs.Ring.{here, in-nil, in-one}
-use Rattle.links.proofs.Circuit.{no-ring, one-ring, alone-in}
-use Rattle.links.proofs.Trails.{same-end}
+use Rattle.sequence.specs.Sequence.{nextSeq}
 use Rattle.node.specs.declared.Status.{Status}
 use Rattle.node.specs.declared.Status.the-variants.{Out, Ins, In, Del}
 use Rattle.node.specs.declared.Link.the-variants.{To}
@@ -25,17 +20,12 @@ use Rattle.node.specs.declared.Node.{Node}
 use Rattle.node.specs.declared.Message.{Message}
 use Rattle.node.specs.declared.Peer.{Peer}
 use Rattle.node.specs.Shape.{declaredOf}
-use Rattle.node.specs.Actions.{setR, setRAck, setL, withStatus, created, joining}
-use Rattle.protocol.specs.State.{isAckTo, isDealingOf, isNotice, isNoticeTo, isAck, dealings, isInserted}
-use Rattle.protocol.proofs.Facts.{Taken}
-use Rattle.protocol.proofs.Invariant.{Dealt, isMember, Member, Request, Keeps, stored, coming, LeftLink, Invariant}
-use Rattle.protocol.proofs.Frames.{At, unchanged, apart, in-one as in-posted, same-any, request-deals, not-ack, no-dealing, member-same, member-not-out, request-same, keeps-same, left-same, SameRing, same-order}
-
-out-not-ins : Out ≢ Ins
-out-not-ins e = let z : _≡_ {A = ℕ} 0 1 = cc in omega arith
-
-in-not-ins : In ≢ Ins
-in-not-ins e = let z : _≡_ {A = ℕ} 0 1 = cc in omega arith
+use Rattle.node.specs.Actions.{setR, setRAck, setL, withStatus, joining}
+use Rattle.protocol.specs.State.{isAckTo, isNotice, isNoticeTo, isAck, dealings, isInserted}
+use Rattle.protocol.proofs.Waiting.{Dealt, apart, in-one as in-posted, same-any, request-deals, not-ack, no-dealing}
+use Rattle.protocol.proofs.Fields.{statusOf, keyOf, leftOf, rightOf, lseqOf, rseqOf, kindOf, toOf, senderOf}
+use Rattle.protocol.proofs.Invariant.{isMember, Member, Request, Keeps, stored, coming, Invariant}
+use Rattle.protocol.proofs.Frames.{At, settled-in, ins-not-del, unchanged, member-same, member-not-out, request-same, keeps-same, left-same, same-order}
 
 -- ---- declare
 -- a node more, that is out as its place was; every request that waits is from, to and about others
@@ -46,20 +36,20 @@ declares-kept {N} {N′} {M} {i = i} inv out known at = record {
     joiners = λ u h. inv .dealings .joiners u (sym (status u) ∙ h);
     leavers = λ u h. inv .dealings .leavers u (sym (status u) ∙ h);
     requests = λ v p new e n j. let (dv, dp, de) = known v p new e n j in
-        request-same (at .others v dv) (ap (λ (y : Node). y .key) (at .others p dp)) (ap (λ (y : Node). y .key) (at .others e de)) (inv .dealings .requests v p new e n j);
+        request-same (at .others v dv) (ap keyOf (at .others p dp)) (ap keyOf (at .others e de)) (inv .dealings .requests v p new e n j);
     quiet = λ w u a n h f j. inv .dealings .quiet w u a n (sym (status u) ∙ h) (sym (member u) ∙ f) j;
   };
   order = same-order (record {
     member = member;
-    key = λ u m. ap (λ (y : Node). y .key) (same u m);
-    right = λ u m. ap (λ (y : Node). y .right) (same u m);
-    keeps = λ v R m k. keeps-same (status v) (ap (λ (y : Node). y .rseq) (same v m)) (λ w j. j) k;
-    lefts = λ v u R m k. left-same (ap (λ (y : Node). y .lseq) (same u m)) (ap (λ (y : Node). y .left) (same u m)) (λ w a n j. j) (λ w a n j. j) k;
+    key = λ u m. ap keyOf (same u m);
+    right = λ u m. ap rightOf (same u m);
+    keeps = λ v R m k. keeps-same (status v) (ap rseqOf (same v m)) (λ w j. j) k;
+    lefts = λ v u R m k. left-same (ap lseqOf (same u m)) (ap leftOf (same u m)) (λ w a n j. j) (λ w a n j. j) k;
   }) (inv .order);
 }
   where
     status : (u : ℕ) → N′ u .status ≡ N u .status
-    status = unchanged at (λ (y : Node). y .status) (sym out)
+    status = unchanged at statusOf (sym out)
 
     member : (u : ℕ) → isMember N′ M u ≡ isMember N M u
     member u = member-same (status u) refl
@@ -75,9 +65,9 @@ one-more {N} {M} {i} {p} {new} {e} {n} old own v q b d k j = ⊎-elim (λ l. old
   where
     posted : setR v q b d k ≡ setR i p new e n → Request N v q b d k
     posted f =
-        let kind : SetR b d k ≡ SetR new e n = ap (λ (y : Message). y .kind) f in
-        let from : v ≡ i = ap (λ (y : Message). y .sender) f in
-        let to : q ≡ p = ap (λ (y : Message). y .to) f in
+        let kind : SetR b d k ≡ SetR new e n = ap kindOf f in
+        let from : v ≡ i = ap senderOf f in
+        let to : q ≡ p = ap toOf f in
         let eb : b ≡ new = cc in
         let ed : d ≡ e = cc in
         let ek : k ≡ n = cc in
@@ -114,21 +104,21 @@ asked {N} {N′} {M} {joins = joins} {joins′} {i} {p} {new} {e} {n} {x} dealt 
   order = same-order (record {
     member = member;
     key = λ u _. keys u;
-    right = λ u m. at-member (λ (y : Node). y .right) (a .right) u m (ℕ-discrete u i);
+    right = λ u m. at-member rightOf (a .right) u m (ℕ-discrete u i);
     keeps = λ v R m k. keeps v R m k (ℕ-discrete v i);
-    lefts = λ v u R m k. left-same (at-member (λ (y : Node). y .lseq) (λ o. a .left o .1) u m (ℕ-discrete u i)) (at-member (λ (y : Node). y .left) (λ o. a .left o .0) u m (ℕ-discrete u i))
+    lefts = λ v u R m k. left-same (at-member lseqOf (λ o. a .left o .1) u m (ℕ-discrete u i)) (at-member leftOf (λ o. a .left o .0) u m (ℕ-discrete u i))
         (λ w b l j. ⊎-elim (λ h. h) (λ d. absurd (apart (λ y. isNotice (y .kind)) refl refl d)) (in-posted M j)) (λ w b l j. in-left _ j) k;
   }) (inv .order);
 }
   where
     status : (u : ℕ) → u ≢ i → N′ u .status ≡ N u .status
-    status u d = ap (λ (y : Node). y .status) (a .at .others u d)
+    status u d = ap statusOf (a .at .others u d)
 
     own-status : {u : ℕ} {s : Status} → u ≡ i → N′ u .status ≡ s → x .status ≡ s
-    own-status d h = sym (ap (λ (y : Node). y .status) (a .at .self)) ∙ ap (λ v. N′ v .status) (sym d) ∙ h
+    own-status d h = sym (ap statusOf (a .at .self)) ∙ ap (λ v. N′ v .status) (sym d) ∙ h
 
     keys : (u : ℕ) → N′ u .key ≡ N u .key
-    keys = unchanged (a .at) (λ (y : Node). y .key) (a .key)
+    keys = unchanged (a .at) keyOf (a .key)
 
     joined : (u : ℕ) → N′ u .status ≡ Ins → Dec (u ≡ i) → joins′ u ≡ true
     joined u h (yes d) = ap joins′ d ∙ a .joiner (own-status d h)
@@ -161,7 +151,7 @@ asked {N} {N′} {M} {joins = joins} {joins′} {i} {p} {new} {e} {n} {x} dealt 
       where
         posted-before : (u w : ℕ) → setRAck w u R ∈ (M ++ setR i p new e n ∷ []) → setRAck w u R ∈ M
         posted-before u w j = ⊎-elim (λ h. h) (λ z. absurd (apart (λ y. isAck (y .kind)) refl refl z)) (in-posted M j)
-    keeps v R m k (no d) = keeps-same (status v d) (ap (λ (y : Node). y .rseq) (a .at .others v d)) (λ w j. ⊎-elim (λ h. h) (λ z. absurd (apart (λ y. isAck (y .kind)) refl refl z)) (in-posted M j)) k
+    keeps v R m k (no d) = keeps-same (status v d) (ap rseqOf (a .at .others v d)) (λ w j. ⊎-elim (λ h. h) (λ z. absurd (apart (λ y. isAck (y .kind)) refl refl z)) (in-posted M j)) k
 
 -- a node that is idle has no acknowledgement waiting
 idle-no-ack : {N : ℕ → Node} {M : List Message} → Dealt N M → (u : ℕ) → dealings (N u .status) ≡ 0 → any (isAckTo u) M ≡ false
@@ -177,26 +167,26 @@ module _ {N N′ : ℕ → Node} {M : List Message} {told joins joins′ : ℕ �
     key = refl;
     other-joins = other-joins;
     joiner = λ _. joins;
-    leaver = λ e. let z : _≡_ {A = ℕ} 0 1 = cc in absurd (omega arith);
+    leaver = λ e. absurd (ins-not-del e);
     request = record {
       by-joiner = λ _. record {
         itself = refl;
-        left = ap (λ (y : Node). y .left) (at .self);
-        right = ap (λ (y : Node). y .right) (at .self);
-        number = sym (ap (λ (y : Node). y .lseq) (at .self));
+        left = ap leftOf (at .self);
+        right = ap rightOf (at .self);
+        number = sym (ap lseqOf (at .self));
         between = rw (keys (p .number), keys (q .number), keys i) between;
       };
-      by-leaver = λ h. let e = sym (ap (λ (y : Node). y .status) (at .self)) ∙ h in let z : _≡_ {A = ℕ} 0 1 = cc in absurd (omega arith);
+      by-leaver = λ h. absurd (ins-not-del (sym (ap statusOf (at .self)) ∙ h));
     };
     no-notice = λ w a k _ j. not-both (eq-eqb i i refl) (none-in (isNoticeTo i) quiet j);
-    member = member-same (ap (λ (y : Node). y .status) (at .self)) (idle-no-ack dealt i (ap dealings out)) ∙ sym (member-same out refl);
+    member = member-same (ap statusOf (at .self)) (idle-no-ack dealt i (ap dealings out)) ∙ sym (member-same out refl);
     right = λ m. absurd (not-both m (member-same out refl));
     left = λ m. absurd (not-both m (member-same out refl));
     keeps = λ R m. absurd (not-both m (member-same out refl));
   })
     where
       keys : (u : ℕ) → N′ u .key ≡ N u .key
-      keys = unchanged at (λ (y : Node). y .key) refl
+      keys = unchanged at keyOf refl
 
   -- "Else del, and SetR(right, u, right number + 1) to its left link"
   pub leaves-kept : (p q n : ℕ) → N i .status ≡ In → joins′ i ≡ false → N i .right ≡ To q → q ≢ i → N i .rseq ≡ Is n
@@ -206,19 +196,19 @@ module _ {N N′ : ℕ → Node} {M : List Message} {told joins joins′ : ℕ �
     idle = ap dealings is-in;
     key = refl;
     other-joins = other-joins;
-    joiner = λ e. let z : _≡_ {A = ℕ} 0 1 = cc in absurd (omega arith);
+    joiner = λ e. absurd (ins-not-del (sym e));
     leaver = λ _. joins;
     request = record {
-      by-joiner = λ h. let e = sym (ap (λ (y : Node). y .status) (at .self)) ∙ h in let z : _≡_ {A = ℕ} 0 1 = cc in absurd (omega arith);
+      by-joiner = λ h. absurd (ins-not-del (sym h ∙ ap statusOf (at .self)));
       by-leaver = λ _. record {
-        right = ap (λ (y : Node). y .right) (at .self) ∙ right;
+        right = ap rightOf (at .self) ∙ right;
         another = not-alone;
         expected = refl;
-        number = λ k h. same-next k (sym number ∙ sym (ap (λ (y : Node). y .rseq) (at .self)) ∙ h);
+        number = λ k h. same-next k (sym number ∙ sym (ap rseqOf (at .self)) ∙ h);
       };
     };
-    no-notice = λ w a k e. let z : _≡_ {A = ℕ} 0 1 = cc in absurd (omega arith);
-    member = member-same (ap (λ (y : Node). y .status) (at .self)) (idle-no-ack dealt i (ap dealings is-in)) ∙ sym (member-same is-in refl);
+    no-notice = λ w a k e. absurd (ins-not-del (sym e));
+    member = member-same (ap statusOf (at .self)) (idle-no-ack dealt i (ap dealings is-in)) ∙ sym (member-same is-in refl);
     right = λ _. refl;
     left = λ _. (refl, refl);
     keeps = λ R _ k. keep R k;
@@ -228,5 +218,5 @@ module _ {N N′ : ℕ → Node} {M : List Message} {told joins joins′ : ℕ �
       same-next k e = let f : n ≡ k = cc in ap nextSeq f
 
       keep : (R : ℕ) → Keeps N′ M i R → Keeps N M i R
-      keep R (stored f e) = stored (λ h. in-not-ins (sym is-in ∙ h)) (sym (ap (λ (y : Node). y .rseq) (at .self)) ∙ e)
-      keep R (coming h w j) = let e = sym (ap (λ (y : Node). y .status) (at .self)) ∙ h in let z : _≡_ {A = ℕ} 0 1 = cc in absurd (omega arith)
+      keep R (stored f e) = stored (λ h. settled-in .0 (sym is-in ∙ h)) (sym (ap rseqOf (at .self)) ∙ e)
+      keep R (coming h w j) = absurd (ins-not-del (sym h ∙ ap statusOf (at .self)))

@@ -4,7 +4,6 @@ use mathlib.Core.Logic.{_≢_}
 use mathlib.Core.Bool.{Bool, true, false}
 use mathlib.Core.List.{List, [], _∷_}
 use Prim.Native.Nat.{ℕ}
-use native.Mathlib.Omega.{arith}
 use native.Mathlib.Decide.{ℕ-discrete}
 use borrow.Author.Tests.{eq-eqb}
 use Rattle.truth.specs.Tests.{any}
@@ -21,9 +20,11 @@ use Rattle.node.specs.declared.Seq.the-variants.{Is}
 use Rattle.node.specs.declared.Node.{Node}
 use Rattle.node.specs.declared.Message.{Message}
 use Rattle.node.specs.Actions.{setR, setL, withStatus, created}
-use Rattle.protocol.specs.State.{isAckTo, isNoticeTo, dealings, isInserted}
-use Rattle.protocol.proofs.Invariant.{Dealt, isMember, Member, Keeps, stored, coming, LeftLink, Invariant}
-use Rattle.protocol.proofs.Frames.{At, unchanged, request-deals, no-dealing, member-same, request-same, Settled, settled-in, settled-out}
+use Rattle.protocol.specs.State.{isNoticeTo, dealings}
+use Rattle.protocol.proofs.Waiting.{Dealt, request-deals, no-dealing}
+use Rattle.protocol.proofs.Fields.{statusOf, keyOf, leftOf, rightOf, lseqOf, rseqOf}
+use Rattle.protocol.proofs.Invariant.{isMember, Member, Keeps, stored, coming, LeftLink, Invariant}
+use Rattle.protocol.proofs.Frames.{At, unchanged, member-same, request-same, settled-in, settled-out}
 
 module _ {N N′ : ℕ → Node} {M : List Message} {told told′ joins : ℕ → Bool} (dealt : Dealt N M) (inv : Invariant N M told joins)
     (i : ℕ) (others-told : (u : ℕ) → u ≢ i → told′ u ≡ told u) where
@@ -38,7 +39,7 @@ module _ {N N′ : ℕ → Node} {M : List Message} {told told′ joins : ℕ �
     };
     order = record {
       order = i ∷ [];
-      ring = one-ring (ap (λ (y : Node). y .right) (at .self));
+      ring = one-ring (ap rightOf (at .self));
       members = λ u. (λ j. rw (in-one j) own, λ m. here (only u m (ℕ-discrete u i)));
       as-told = λ u. as-told u (ℕ-discrete u i);
       lefts = λ v u R m r k. lefts v u R (only v m (ℕ-discrete v i)) r k;
@@ -49,14 +50,14 @@ module _ {N N′ : ℕ → Node} {M : List Message} {told told′ joins : ℕ �
       none-waits u s not-in not-out h = go (ℕ-discrete u i)
         where
           go : Dec (u ≡ i) → ⊥
-          go (yes d) = not-in (sym (ap (λ (y : Node). y .status) (at .self)) ∙ ap (λ v. N′ v .status) (sym d) ∙ h)
-          go (no d) = not-out (sym (out u) ∙ sym (ap (λ (y : Node). y .status) (at .others u d)) ∙ h)
+          go (yes d) = not-in (sym (ap statusOf (at .self)) ∙ ap (λ v. N′ v .status) (sym d) ∙ h)
+          go (no d) = not-out (sym (out u) ∙ sym (ap statusOf (at .others u d)) ∙ h)
 
       own : isMember N′ M i ≡ true
-      own = member-same (ap (λ (y : Node). y .status) (at .self)) refl
+      own = member-same (ap statusOf (at .self)) refl
 
       not-other : (u : ℕ) → u ≢ i → isMember N′ M u ≡ false
-      not-other u d = member-same (ap (λ (y : Node). y .status) (at .others u d) ∙ out u) refl
+      not-other u d = member-same (ap statusOf (at .others u d) ∙ out u) refl
 
       only : (u : ℕ) → Member N′ M u → Dec (u ≡ i) → u ≡ i
       only u m (yes d) = d
@@ -68,23 +69,23 @@ module _ {N N′ : ℕ → Node} {M : List Message} {told told′ joins : ℕ �
 
       lone : (R : ℕ) → firstSeq ≡ R → LeftLink N′ M i i R
       lone R f =
-          let lseq : N′ i .lseq ≡ R = ap (λ (y : Node). y .lseq) (at .self) ∙ f in
+          let lseq : N′ i .lseq ≡ R = ap lseqOf (at .self) ∙ f in
           let none : (w a n : ℕ) → ¬ (setL w i a n ∈ M) = λ w a n j. not-both (eq-eqb i i refl) (none-in (isNoticeTo i) quiet j) in
           record {
             reached = rw lseq (newer-irreflexive R);
             noticed = λ w a n j. absurd (none w a n j);
             named = λ w a j. absurd (none w a R j);
-            settled = λ _. ap (λ (y : Node). y .left) (at .self);
+            settled = λ _. ap leftOf (at .self);
             awaited = λ d. absurd (d lseq);
           }
 
       number : (R : ℕ) → Keeps N′ M i R → firstSeq ≡ R
-      number R (stored f e) = let same : Is firstSeq ≡ Is R = sym (ap (λ (y : Node). y .rseq) (at .self)) ∙ e in cc
-      number R (coming h w j) = absurd (settled-in .0 (sym (ap (λ (y : Node). y .status) (at .self)) ∙ h))
+      number R (stored f e) = let same : Is firstSeq ≡ Is R = sym (ap rseqOf (at .self)) ∙ e in cc
+      number R (coming h w j) = absurd (settled-in .0 (sym (ap statusOf (at .self)) ∙ h))
 
       lefts : (v u R : ℕ) → v ≡ i → N′ v .right ≡ To u → Keeps N′ M v R → LeftLink N′ M v u R
       lefts v u R d r k =
-          let here : u ≡ i = same-end r (ap (λ w. N′ w .right) d ∙ ap (λ (y : Node). y .right) (at .self)) in
+          let here : u ≡ i = same-end r (ap (λ w. N′ w .right) d ∙ ap rightOf (at .self)) in
           rw (d, here) (lone R (number R (rw d at k)))
 
   -- "if u's right link is u, out with no message"
@@ -106,22 +107,22 @@ module _ {N N′ : ℕ → Node} {M : List Message} {told told′ joins : ℕ �
   }
     where
       keys : (u : ℕ) → N′ u .key ≡ N u .key
-      keys = unchanged at (λ (y : Node). y .key) refl
+      keys = unchanged at keyOf refl
 
       not-own : (v p new e n : ℕ) → setR v p new e n ∈ M → v ≢ i
       not-own v p new e n j f = not-both (request-deals v p new e n) (rw (← f) at (no-dealing dealt i (ap dealings is-in) j))
 
       not-gone : (u : ℕ) (s : Status) → Out ≢ s → N′ u .status ≡ s → u ≢ i
-      not-gone u s n h e = n (sym (ap (λ (y : Node). y .status) (at .self)) ∙ ap (λ v. N′ v .status) (sym e) ∙ h)
+      not-gone u s n h e = n (sym (ap statusOf (at .self)) ∙ ap (λ v. N′ v .status) (sym e) ∙ h)
 
       waited : (u : ℕ) (s : Status) → Out ≢ s → N′ u .status ≡ s → N u .status ≡ s
-      waited u s n h = sym (ap (λ (y : Node). y .status) (at .others u (not-gone u s n h))) ∙ h
+      waited u s n h = sym (ap statusOf (at .others u (not-gone u s n h))) ∙ h
 
       gone : isMember N′ M i ≡ false
-      gone = member-same (ap (λ (y : Node). y .status) (at .self)) refl
+      gone = member-same (ap statusOf (at .self)) refl
 
       same : (u : ℕ) → u ≢ i → isMember N′ M u ≡ isMember N M u
-      same u d = member-same (ap (λ (y : Node). y .status) (at .others u d)) refl
+      same u d = member-same (ap statusOf (at .others u d)) refl
 
       none : (u : ℕ) → Member N′ M u → Dec (u ≡ i) → ⊥
       none u m (yes d) = not-both m (ap (isMember N′ M) d ∙ gone)

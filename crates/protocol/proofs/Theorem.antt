@@ -1,23 +1,22 @@
 -- After every list of calls the network is well formed and the invariant holds: it holds of the empty network, and each call keeps it,
 -- case by case of `Changes`. The claim of demand 3 is read off it. Assumes nothing.
 use mathlib.Core.Path.{_≡_, refl, sym, ap, _∙_}
-use mathlib.Core.Logic.{_⊎_, inl, inr, ⊎-elim, _↔_, _≢_}
-use mathlib.Core.Bool.{Bool, true, false, cond}
-use mathlib.Core.List.{List, [], _∷_, _++_}
+use mathlib.Core.Logic.{_↔_, _≢_}
+use mathlib.Core.Bool.{Bool, true, false}
+use mathlib.Core.List.{List, [], _∷_}
 use Prim.Native.Nat.{ℕ, _≤_, _<_}
 use native.Mathlib.Omega.{arith}
 use native.Mathlib.Decide.{decLt, ℕ-discrete}
 use lib.ListN.{length, length-append, set, getD, List·getD-eq-default, List·getD-append}
 use lib.Seq.{getD-set-same, getD-set-other, getD-append-seam}
-use lib.Dec.{T, ltb, eqb}
+use lib.Dec.{ltb}
 use borrow.Author.Tests.{ltb-true, eq-eqb, eqb-true, ne-eqb}
 use Rattle.truth.specs.Tests.{count, any}
 use Rattle.truth.proofs.Laws.{both, true-is-not-false}
 use Rattle.truth.proofs.TestLaws.{_∈_, holds, is-true, not-both, none-in, some-in}
 use Rattle.refusal.specs.Rules.{no as refusal}
-use Rattle.links.specs.Walk.{Predecessor}
 use mathlib.Core.List.{List·Memᴰ·not-nil as in-none}
-use Rattle.links.proofs.Circuit.{no-ring, next-in, predecessor, circuit}
+use Rattle.links.proofs.Circuit.{no-ring, predecessor, circuit}
 use Rattle.sequence.specs.Sequence.{nextSeq, cappedNext}
 use Rattle.node.specs.declared.Status.{Status}
 use Rattle.node.specs.declared.Status.the-variants.{Out, Ins, In, Del}
@@ -28,23 +27,25 @@ use Rattle.node.specs.declared.Seq.the-variants.{Is}
 use Rattle.node.specs.declared.Node.{Node}
 use Rattle.node.specs.declared.Message.{Message}
 use Rattle.node.specs.Shape.{declaredOf, isInOrDel}
-use Rattle.node.specs.Actions.{setR, setRAck, setL, seqOf}
+use Rattle.node.specs.Actions.{setR, setRAck, seqOf}
 use Rattle.node.proofs.FitLaws.{message-facts, number-named}
 use Rattle.protocol.specs.declared.Call.{Call}
 use Rattle.protocol.specs.declared.Call.the-variants.{Declare, Create, Join, Leave, Deliver}
-use Rattle.protocol.specs.State.{State, empty, nodeAt, statusAt, leftAt, rightAt, isAckTo, isNoticeTo, isDealingOf, dealings, noticeWaits, isInserted, inserted}
-use Rattle.protocol.specs.Calls.{Result, declaring, messageAt, applyOf, peerAt}
+use Rattle.protocol.specs.State.{State, nodeAt, statusAt, leftAt, rightAt, isAckTo, isNoticeTo, isDealingOf, dealings, noticeWaits, isInserted, inserted}
+use Rattle.protocol.specs.Calls.{Result, declaring, messageAt, peerAt}
 use Rattle.protocol.specs.History.{History, start, put, toldAfter, joinsAfter, advanced, run, history}
 use Rattle.protocol.specs.Claim.{Inserted, Sound, RingClaim}
-use Rattle.protocol.proofs.Facts.{WellFormed, tested, Taken}
+use Rattle.protocol.proofs.Waiting.{Taken, Dealt}
+use Rattle.protocol.proofs.Fields.{statusOf, senderOf}
+use Rattle.protocol.proofs.Facts.{WellFormed, tested}
 use Rattle.protocol.proofs.Changes.{Act, drops, lets-in, lets-go, denies, joins, goes, stays-out, stays-in, takes, ignores}
 use Rattle.protocol.proofs.Changes.{Change, refuses, declares, creates, asks, goes-alone, leaves, delivers}
 use Rattle.protocol.proofs.Cases.{change}
 use Rattle.protocol.proofs.Moves.{unconcerned}
 use Rattle.protocol.proofs.Kept.{kept}
 use Rattle.protocol.proofs.Lively.{lively}
-use Rattle.protocol.proofs.Invariant.{Dealt, isMember, Member, Keeps, stored, coming, LeftLink, Invariant}
-use Rattle.protocol.proofs.Frames.{At, settled-in, settled-out, member-not-out}
+use Rattle.protocol.proofs.Invariant.{Member, Keeps, stored, coming, LeftLink, Invariant}
+use Rattle.protocol.proofs.Frames.{At, settled-in, settled-out, ins-not-del, member-not-out}
 use Rattle.protocol.proofs.Answers.{joins-kept, goes-kept, stays-out-kept, stays-in-kept}
 use Rattle.protocol.proofs.Denials.{denies-kept, drops-kept}
 use Rattle.protocol.proofs.Notices.{takes-kept, ignores-kept}
@@ -108,7 +109,7 @@ After h call r = Invariant (nodeAt (r .state)) (r .state .messages) (toldAfter h
 module _ (h : History) (g : Good h) where
   -- the granted request is that of v
   sender : (place : ℕ) {m : Message} {v p new e n : ℕ} → messageAt (h .state) place ≡ m → m ≡ setR v p new e n → messageAt (h .state) place .sender ≡ v
-  sender place at em = ap (λ (y : Message). y .sender) (at ∙ em)
+  sender place at em = ap senderOf (at ∙ em)
 
   others-told : (place v : ℕ) → messageAt (h .state) place .sender ≡ v → (u : ℕ) → u ≢ v → put (h .told) (messageAt (h .state) place .sender) (h .joins (messageAt (h .state) place .sender)) u ≡ h .told u
   others-told place v e u d = put-other (h .told) _ _ u (λ f. d (f ∙ e))
@@ -153,12 +154,12 @@ module _ (h : History) (g : Good h) where
     where
       go : Dec (v < length (h .state .nodes)) → statusAt (h .state) v ≡ Out
       go (yes k) = out v k
-      go (no k) = ap (λ (y : Node). y .status) (past (h .state) v (omega arith))
+      go (no k) = ap statusOf (past (h .state) v (omega arith))
 
   call-holds : {call : Call} {r : Result} → Change (h .state) call r → After h call r
   call-holds {call} (refuses n er) = rw (er, told-refused h call n, joins-refused h call n) (g .invariant)
   call-holds (declares key ec d er) = rw (ec, er)
-      (declares-kept (g .invariant) (ap (λ (y : Node). y .status) (past (h .state) (length (h .state .nodes)) (omega arith))) known (declared-at (h .state) key))
+      (declares-kept (g .invariant) (ap statusOf (past (h .state) (length (h .state .nodes)) (omega arith))) known (declared-at (h .state) key))
   call-holds (creates u ec c er) = rw (ec, er)
       (creates-kept (dealt (g .formed)) (g .invariant) u (put-other (h .told) u true) (all-out (c .all-out)) (c .no-notice) (put-own (h .told) u true) (set-at (h .state .nodes) (c .declared)))
   call-holds (asks u p q ec j er) = rw (ec, er)
@@ -227,7 +228,7 @@ module _ {s : State} {told joins : ℕ → Bool} (w : WellFormed s) (inv : Invar
         where
           inside : Dec (v < length (s .nodes)) → v < length (s .nodes)
           inside (yes k) = k
-          inside (no k) = absurd (d (ap (λ (y : Node). y .status) (past s v (omega arith))))
+          inside (no k) = absurd (d (ap statusOf (past s v (omega arith))))
 
       by-number : isInOrDel (statusAt s v) ≡ true → statusAt s v ≢ Ins → (R : ℕ) × Keeps (nodeAt s) (s .messages) v R
       by-number e not-ins = (seqOf (nodeAt s v .rseq), stored not-ins (number-named (w .node v (declared (member-not-out (nodeAt s) (s .messages) v m))) e))
@@ -239,7 +240,7 @@ module _ {s : State} {told joins : ℕ → Bool} (w : WellFormed s) (inv : Invar
           let (q, n, f) = ack-from v x t in
           (n, coming e q (rw f at i))
       go In e = by-number (ap isInOrDel e) (λ f. settled-in .0 (sym e ∙ f))
-      go Del e = by-number (ap isInOrDel e) (λ f. let z : _≡_ {A = ℕ} 0 1 = cc in absurd (omega arith))
+      go Del e = by-number (ap isInOrDel e) (λ f. ins-not-del (sym f ∙ e))
 
   -- where no notice waits, the left link names the predecessor
   left-holds : (u p : ℕ) → noticeWaits s u ≡ false → Member (nodeAt s) (s .messages) p → rightAt s p ≡ To u → leftAt s u ≡ To p

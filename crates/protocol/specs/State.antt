@@ -2,7 +2,7 @@
 -- of its nodes are inserted. The lists may have any length; the limits are clauses of well-formedness. Definitions only.
 use Prim.Native.Nat.{ℕ}
 use mathlib.Core.Bool.{Bool, true, false, not, _&&_, _||_}
-use mathlib.Core.List.{List, [], _∷_}
+use mathlib.Core.List.{List, []}
 use lib.ListN.{length, getD}
 use lib.Dec.{ltb, leb, eqb}
 use Rattle.truth.specs.Tests.{count, any, every, everyBelow}

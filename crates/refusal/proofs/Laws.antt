@@ -1,9 +1,9 @@
 -- Laws of refusals: each has a number of its own, so a number names its refusal; and a check that says what a call's rules say
 -- settles the call. Assumes nothing.
 use mathlib.Core.Path.{_≡_, refl, sym, ap, _∙_}
-use mathlib.Core.Bool.{Bool, true, false, cond}
-use mathlib.Core.List.{List, [], _∷_, List·Memᴰ, List·Memᴰ·head as here, List·Memᴰ·tail as there}
-use mathlib.Core.Option.{Option, none, some}
+use mathlib.Core.Bool.{true, false, cond}
+use mathlib.Core.List.{List, [], _∷_}
+use mathlib.Core.Option.{none}
 use Prim.Native.Nat.{ℕ, _-_}
 use native.Mathlib.Omega.{arith}
 use lib.ListN.{getD}
@@ -59,13 +59,11 @@ module _ {B : Type 0} (rules : List Rule) {k : Check} (says : checked k ≡ firs
   on-clear e = ap (λ o. settled o refused accepted) (ap checked (sym e) ∙ says)
 
 -- ---- where no rule refuses, no condition of theirs holds
-not-refusing : (n : ℕ) (refuses : Bool) (rest : Option ℕ) → cond refuses (some n) rest ≡ none → (refuses ≡ false) × (rest ≡ none)
-not-refusing n true rest e = let z : _≡_ {A = ℕ} 0 1 = cc in absurd (omega arith)
-not-refusing n false rest e = (refl, e)
+abbrev pub Cleared : List Rule → Type 0
+Cleared [] = Unit {0}
+Cleared ((n when refuses) ∷ rules) = (refuses ≡ false) × Cleared rules
 
-later : (r : Rule) (rules : List Rule) → first (r ∷ rules) ≡ none → first rules ≡ none
-later (n when refuses) rules e = not-refusing n refuses (first rules) e .1
-
-pub clear-of : {n : ℕ} {refuses : Bool} {rules : List Rule} → first rules ≡ none → List·Memᴰ (n when refuses) rules → refuses ≡ false
-clear-of {n} {refuses} e (here {xs = rules} p) = not-refusing n refuses (first rules) (rw (← p) at e) .0
-clear-of e (there {x = r} {xs = rules} i) = clear-of (later r rules e) i
+pub cleared : (rules : List Rule) → first rules ≡ none → Cleared rules
+cleared [] e = tt
+cleared ((n when true) ∷ rules) e = let z : _≡_ {A = ℕ} 0 1 = cc in absurd (omega arith)
+cleared ((n when false) ∷ rules) e = (refl, cleared rules e)

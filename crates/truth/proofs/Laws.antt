@@ -1,8 +1,8 @@
 -- What it says that a test put together from others is true. A test comes as an equation, `b ≡ true`, or as a type, `T b`.
 -- Assumes nothing.
-use mathlib.Core.Path.{_≡_, refl, sym}
+use mathlib.Core.Path.{_≡_, refl, sym, _∙_}
 use mathlib.Core.Logic.{_⊎_, inl, inr, ⊎-elim, _↔_}
-use mathlib.Core.Bool.{Bool, true, false, _&&_, _||_}
+use mathlib.Core.Bool.{Bool, true, false, _&&_, _||_, cond}
 use Prim.Native.Nat.{ℕ}
 use native.Mathlib.Omega.{arith}
 use lib.Dec.{T}
@@ -21,6 +21,15 @@ or-right false q h = h
 pub not-left : (p q : Bool) → p ≡ false → (p || q) ≡ true → q ≡ true
 not-left true q e h = absurd (true-is-not-false (sym e))
 not-left false q e h = h
+
+pub left-fails : (p q : Bool) → (p && q) ≡ false → q ≡ true → p ≡ false
+left-fails true q h e = absurd (true-is-not-false (sym h ∙ e))
+left-fails false q h e = refl
+
+-- what holds of both outcomes of a test holds of the choice
+pub by-test : {A : Type 0} (P : A → Type 0) (b : Bool) (x y : A) → (b ≡ true → P x) → (b ≡ false → P y) → P (cond b x y)
+by-test P true x y f g = f refl
+by-test P false x y f g = g refl
 
 pub and-T : (p q : Bool) → T (p && q) ↔ (T p × T q)
 and-T true q = (λ t. (tt, t), λ t. t .1)
