@@ -25,13 +25,13 @@ use Rattle.node.specs.declared.Kind.{Kind}
 use Rattle.node.specs.declared.Kind.the-variants.{SetR, SetRAck, SetRNak, SetL}
 use Rattle.node.specs.declared.Message.{Message}
 use Rattle.node.specs.Shape.{isOut, isInOrDel, capacity}
-use Rattle.node.specs.Actions.{Effect, target, seqOf, alone, leaveRules, grants, onSetR, onSetRAck, onSetRNak, onSetL, onKind}
+use Rattle.node.specs.Actions.{Effect, target, seqOf, alone, leaveRules as leaveStepRules, grants, onSetR, onSetRAck, onSetRNak, onSetL, onKind}
 use Rattle.node.proofs.ActionLaws.{tested-out, tested-in, tested-link, granted, create-accepted, join-accepted, leave-alone-accepted, leave-accepted, receive-accepted, join-granted, leave-granted}
 use Rattle.node.proofs.FitLaws.{NodeFits, message-facts, left-named, right-named, number-named, well-formed-among, deliverable-among}
 use Rattle.protocol.specs.declared.Call.{Call}
 use Rattle.protocol.specs.declared.Call.the-variants.{Declare, Create, Join, Leave, Deliver}
 use Rattle.protocol.specs.State.{State, queueLimit, nodeAt, statusAt, keyAt, leftAt, rightAt, isRequest, isAnswer, isDealingOf, dealings, wellFormed}
-use Rattle.protocol.specs.Calls.{refused, commit, isFull, declareRules, declaring, createRules, creating, peerAt, joinCallRules, joining, leaveCallRules, leaving, messageAt, without, wouldGrant, deliverRules, receiving, delivering, rulesOf, effectOf, applyOf}
+use Rattle.protocol.specs.Calls.{refused, commit, isFull, declareRules, declaring, createRules, creating, peerAt, joinRules, joining, leaveRules, leaving, messageAt, without, wouldGrant, deliverRules, receiving, delivering, rulesOf, effectOf, applyOf}
 use Rattle.protocol.proofs.Waiting.{taken}
 use Rattle.protocol.proofs.Facts.{WellFormed, formed}
 use Rattle.protocol.proofs.Changes.{Grants, Act, drops, lets-in, lets-go, denies, joins, goes, stays-out, stays-in, takes, ignores, Change, refuses, declares, creates, asks, goes-alone, leaves, delivers}
@@ -67,9 +67,9 @@ create-case s u clear =
       no-notice = no-notice;
     } (rw (create-accepted u (nodeAt s u) (ap not sound, (ap not (all-out u declared), tt)), append-nil))
 
-join-case : (s : State) (u p q : ℕ) → first (joinCallRules s u p q) ≡ none → Change s (Join u p q) (joining s u p q)
+join-case : (s : State) (u p q : ℕ) → first (joinRules s u p q) ≡ none → Change s (Join u p q) (joining s u p q)
 join-case s u p q clear =
-    let (_, (known, (left, (right, (sound, (out, (lies, (no-notice, (room, _))))))))) = cleared (joinCallRules s u p q) clear in
+    let (_, (known, (left, (right, (sound, (out, (lies, (no-notice, (room, _))))))))) = cleared (joinRules s u p q) clear in
     asks u p q refl record {
       declared = tested-below u _ known;
       left-declared = tested-below p _ left;
@@ -80,14 +80,14 @@ join-case s u p q clear =
       room = tested-below (length (s .messages)) queueLimit room;
     } (rw (join-accepted u (nodeAt s u) (peerAt s p) (peerAt s q) (sound, (out, (lies, tt)))))
 
-leave-case : (s : State) (u : ℕ) → first (leaveCallRules s u) ≡ none → Change s (Leave u) (leaving s u)
+leave-case : (s : State) (u : ℕ) → first (leaveRules s u) ≡ none → Change s (Leave u) (leaving s u)
 leave-case s u clear =
-    let (ok, (known, (sound, (inside, (unspent, (room, _)))))) = cleared (leaveCallRules s u) clear in
+    let (ok, (known, (sound, (inside, (unspent, (room, _)))))) = cleared (leaveRules s u) clear in
     let declared : u < length (s .nodes) = tested-below u _ known in
     let fits = formed s (not-false (wellFormed s) ok) .node u declared in
     let is-in : statusAt s u ≡ In = tested-in (statusAt s u) (not-false _ inside) in
     let right = right-named fits (ap isOut is-in) in
-    let own : Cleared (leaveRules u (nodeAt s u)) = (sound, (inside, (unspent, tt))) in
+    let own : Cleared (leaveStepRules u (nodeAt s u)) = (sound, (inside, (unspent, tt))) in
     ⊎-elim
     (λ t. goes-alone u refl record { declared = declared; is-in = is-in; alone = tested-link (rightAt s u) u t }
     (rw (leave-alone-accepted u (nodeAt s u) own t, append-nil)))

@@ -6,7 +6,7 @@ use mathlib.Core.Logic.{⊎-elim}
 use mathlib.Core.Bool.{Bool, true, false, not, _&&_, _||_, cond}
 use mathlib.Core.List.{List, [], _∷_, _++_, List·Memᴰ·head as here, List·Memᴰ·tail as there}
 use mathlib.Core.Option.{none}
-use Prim.Native.Nat.{ℕ, zero, suc, _+_, _*_, _≤_, _<_}
+use Prim.Native.Nat.{ℕ, zero, suc, _+_, _≤_, _<_}
 use native.Mathlib.Omega.{arith}
 use native.Mathlib.Decide.{ℕ-discrete}
 use lib.ListN.{length, getD}
@@ -48,11 +48,13 @@ load-taken : {ms rest : List Message} {m : Message} → Taken ms m rest → load
 load-taken t = omega (arith, t .counted (λ m. isRequest (m .kind)), t .counted (λ m. not (isRequest (m .kind))))
 
 some-load : (m : Message) → 1 ≤ load (m ∷ [])
-some-load m = go (isRequest (m .kind))
+some-load m = go (m .sender) (m .to) (m .kind)
   where
-    go : (b : Bool) → 1 ≤ 3 * (bit b + 0) + (bit (not b) + 0)
-    go true = omega arith
-    go false = omega arith
+    go : (v p : ℕ) (kind : Kind) → 1 ≤ load (record { sender = v; to = p; kind = kind } ∷ [])
+    go v p (SetR new expected number) = omega arith
+    go v p (SetRAck number) = omega arith
+    go v p SetRNak = omega arith
+    go v p (SetL left number) = omega arith
 
 -- a message goes and none comes
 gone : {ms rest : List Message} {m : Message} → Taken ms m rest → 1 + load rest ≤ load ms

@@ -14,7 +14,7 @@ use borrow.Author.Tests.{ltb-true, eq-eqb, eqb-true, ne-eqb}
 use Rattle.truth.specs.Tests.{count, any}
 use Rattle.truth.proofs.Laws.{both, true-is-not-false}
 use Rattle.truth.proofs.TestLaws.{_∈_, holds, is-true, not-both, none-in, some-in}
-use Rattle.refusal.specs.Rules.{no as refusal}
+use Rattle.refusal.specs.Rules.{done, no as refusal}
 use mathlib.Core.List.{List·Memᴰ·not-nil as in-none}
 use Rattle.links.proofs.Circuit.{no-ring, predecessor, circuit}
 use Rattle.sequence.specs.Sequence.{nextSeq, cappedNext}
@@ -26,11 +26,13 @@ use Rattle.node.specs.declared.Kind.the-variants.{SetR, SetRAck, SetRNak, SetL}
 use Rattle.node.specs.declared.Seq.the-variants.{Is}
 use Rattle.node.specs.declared.Node.{Node}
 use Rattle.node.specs.declared.Message.{Message}
+use Rattle.node.specs.declared.Outcome.the-variants.{Granted}
 use Rattle.node.specs.Shape.{declaredOf, isInOrDel}
 use Rattle.node.specs.Actions.{setR, setRAck, seqOf}
 use Rattle.node.proofs.FitLaws.{message-facts, number-named}
 use Rattle.protocol.specs.declared.Call.{Call}
 use Rattle.protocol.specs.declared.Call.the-variants.{Declare, Create, Join, Leave, Deliver}
+use Rattle.protocol.specs.declared.Reply.the-variants.{Stepped}
 use Rattle.protocol.specs.State.{State, nodeAt, statusAt, leftAt, rightAt, isAckTo, isNoticeTo, isDealingOf, dealings, noticeWaits, isInserted, inserted}
 use Rattle.protocol.specs.Calls.{Result, declaring, messageAt, peerAt}
 use Rattle.protocol.specs.History.{History, start, put, toldAfter, joinsAfter, advanced, run, history}
@@ -111,10 +113,10 @@ module _ (h : History) (g : Good h) where
   sender : (place : ℕ) {m : Message} {v p new e n : ℕ} → messageAt (h .state) place ≡ m → m ≡ setR v p new e n → messageAt (h .state) place .sender ≡ v
   sender place at em = ap senderOf (at ∙ em)
 
-  others-told : (place v : ℕ) → messageAt (h .state) place .sender ≡ v → (u : ℕ) → u ≢ v → put (h .told) (messageAt (h .state) place .sender) (h .joins (messageAt (h .state) place .sender)) u ≡ h .told u
+  others-told : (place v : ℕ) → messageAt (h .state) place .sender ≡ v → (u : ℕ) → u ≢ v → toldAfter h (Deliver place) (done (Stepped Granted)) u ≡ h .told u
   others-told place v e u d = put-other (h .told) _ _ u (λ f. d (f ∙ e))
 
-  own-told : (place v : ℕ) → messageAt (h .state) place .sender ≡ v → put (h .told) (messageAt (h .state) place .sender) (h .joins (messageAt (h .state) place .sender)) v ≡ h .joins v
+  own-told : (place v : ℕ) → messageAt (h .state) place .sender ≡ v → toldAfter h (Deliver place) (done (Stepped Granted)) v ≡ h .joins v
   own-told place v e = rw e (put-own (h .told) v (h .joins v))
 
   -- a leaver whose request waits is declared, and has its right number

@@ -16,7 +16,7 @@ use Rattle.node.specs.declared.Message.{Message}
 use Rattle.node.specs.declared.Peer.{Peer}
 use Rattle.node.specs.declared.Outcome.{Outcome}
 use Rattle.node.specs.Shape.{declaredOf, isOut, capacity}
-use Rattle.node.specs.Actions.{Effect, setRNak, createOf, joinRules, joinOf, alone, leaveRules, leaveOf, grants, receiveOf}
+use Rattle.node.specs.Actions.{Effect, setRNak, createOf, joinRules as joinStepRules, joinOf, alone, leaveRules as leaveStepRules, leaveOf, grants, receiveOf}
 use Rattle.protocol.specs.declared.Call.{Call}
 use Rattle.protocol.specs.declared.Call.the-variants.{Declare, Create, Join, Leave, Deliver}
 use Rattle.protocol.specs.declared.Reply.{Reply}
@@ -86,13 +86,13 @@ abbrev pub peerAt : State → ℕ → Peer
 peerAt s p = record { number = p; key = keyAt s p }
 
 -- 23 "bench not out" and 24 "key not in (left, right)" are the step's own; then 25, and 28 "64 messages wait"
-abbrev pub joinCallRules : State → ℕ → ℕ → ℕ → List Rule
-joinCallRules s u p q =
+abbrev pub joinRules : State → ℕ → ℕ → ℕ → List Rule
+joinRules s u p q =
     (6 when not (wellFormed s))
     ∷ (5 when not (declared s u))
     ∷ (5 when not (declared s p))
     ∷ (5 when not (declared s q))
-    ∷ joinRules u (nodeAt s u) (peerAt s p) (peerAt s q)
+    ∷ joinStepRules u (nodeAt s u) (peerAt s p) (peerAt s q)
     ++ (25 when noticeWaits s u)
     ∷ (28 when isFull s)
     ∷ []
@@ -102,11 +102,11 @@ joining s u p q = commit s u (s .messages) (joinOf u (nodeAt s u) (peerAt s p) (
 
 -- ---- leave
 -- 26 "bench not in" and 27 "right number 65,535 and not alone" are the step's own; then 28 of "a leave that posts"
-abbrev pub leaveCallRules : State → ℕ → List Rule
-leaveCallRules s u =
+abbrev pub leaveRules : State → ℕ → List Rule
+leaveRules s u =
     (6 when not (wellFormed s))
     ∷ (5 when not (declared s u))
-    ∷ leaveRules u (nodeAt s u)
+    ∷ leaveStepRules u (nodeAt s u)
     ++ (28 when isFull s && not (alone u (nodeAt s u)))
     ∷ []
 
@@ -152,8 +152,8 @@ delivering s place = commit s (messageAt s place .to) (without place (s .message
 abbrev pub rulesOf : State → Call → List Rule
 rulesOf s (Declare key) = declareRules s key
 rulesOf s (Create u) = createRules s u
-rulesOf s (Join u p q) = joinCallRules s u p q
-rulesOf s (Leave u) = leaveCallRules s u
+rulesOf s (Join u p q) = joinRules s u p q
+rulesOf s (Leave u) = leaveRules s u
 rulesOf s (Deliver place) = deliverRules s place
 
 abbrev pub effectOf : State → Call → Result

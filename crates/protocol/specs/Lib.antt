@@ -2,3 +2,4 @@ pub mod State
 pub mod Calls
 pub mod History
 pub mod Claim
+pub mod Example

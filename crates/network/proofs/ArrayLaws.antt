@@ -1,0 +1,176 @@
+-- The arrays and the lists of a network say the same: the lists that `held` puts into arrays come out of them by `live`, and a well-formed
+-- network is what `held` makes of its own lists. So a call that is refused hands back the very network, and the calls on the arrays
+-- follow those on the lists step by step. Assumes nothing.
+use mathlib.Core.Path.{_≡_, refl}
+use mathlib.Core.Bool.{Bool, true, not, _&&_}
+use mathlib.Core.List.{List, [], _∷_}
+use Prim.Native.Nat.{ℕ, zero, suc, _-_, _≤_}
+use native.Mathlib.Omega.{arith}
+use lib.ListN.{length, take, drop, replicate, length-drop, take-append-drop}
+use lib.Seq.{length-take-le, take-append-seam, drop-append-seam}
+use lib.Dec.{leb, eqb}
+use borrow.Author.Tests.{leb-true, le-leb, eqb-true, eq-eqb}
+use Rattle.truth.specs.Tests.{every}
+use Rattle.truth.proofs.Laws.{both, true-is-not-false}
+use Rattle.truth.proofs.TestLaws.{holds, is-true}
+use Rattle.sequence.specs.Sequence.{firstSeq}
+use Rattle.node.specs.declared.Link.{Link}
+use Rattle.node.specs.declared.Link.the-variants.{Unlinked, To}
+use Rattle.node.specs.declared.Seq.{Seq}
+use Rattle.node.specs.declared.Seq.the-variants.{Unset, Is}
+use Rattle.node.specs.declared.Node.{Node}
+use Rattle.node.specs.declared.Kind.{Kind}
+use Rattle.node.specs.declared.Kind.the-variants.{SetR, SetRAck, SetRNak, SetL}
+use Rattle.node.specs.declared.Message.{Message}
+use Rattle.node.specs.Shape.{isOut, linked, numbered, capacity}
+use Rattle.node.proofs.ActionLaws.{tested-out}
+use Rattle.protocol.specs.declared.Call.{Call}
+use Rattle.protocol.specs.State.{State, queueLimit, wellFormed as listsAreWellFormed}
+use Rattle.protocol.specs.Calls.{refused as listsRefused, applyOf as applyToLists}
+use Rattle.protocol.specs.History.{History, start, advanced, run as runLists, history}
+use Rattle.protocol.proofs.Facts.{formed as lists-formed}
+use Rattle.protocol.proofs.Lively.{steady}
+use Rattle.protocol.proofs.Theorem.{ring}
+use Rattle.network.specs.declared.Network.{Network}
+use Rattle.network.specs.Arrays.{vacantNode, vacantMessage, isVacantNode, isNak, isVacantMessage, live, wellFormed, filled, held, empty, refused, inArrays, applyOf, run}
+
+-- ---- a list that is filled up with a blank
+module _ {A : Type 0} (blank : A) (test : A → Bool) where
+  blanks-pass : (n : ℕ) → test blank ≡ true → every test (replicate n blank) ≡ true
+  blanks-pass zero t = refl
+  blanks-pass (suc n) t = rw t (blanks-pass n t)
+
+  -- where only the blank passes, a list that passes is blank
+  all-blank : ((x : A) → test x ≡ true → x ≡ blank) → (l : List A) → every test l ≡ true → l ≡ replicate (length l) blank
+  all-blank only [] h = refl
+  all-blank only (x ∷ l) h =
+      let (first, rest) = both (test x) (every test l) h in
+      λ i. only x first i ∷ all-blank only l rest i
+
+  -- what fills a list up is blank
+  past-blank : (n : ℕ) (l : List A) → test blank ≡ true → every test (drop (length l) (filled n blank l)) ≡ true
+  past-blank n l t = rw drop-append-seam (blanks-pass (n - length l) t)
+
+  -- an array whose places from k on are blank is its first k elements, filled up
+  refilled : ((x : A) → test x ≡ true → x ≡ blank) → (l : List A) (n k : ℕ) → length l ≡ n → k ≤ n → every test (drop k l) ≡ true → filled n blank (take k l) ≡ l
+  refilled only l n k full few h =
+      let front : length (take k l) ≡ k = length-take-le k l (omega arith) in
+      let rest : n - k ≡ length (drop k l) = rw length-drop (omega arith) in
+      rw (front, rest, ← all-blank only (drop k l) h) (take-append-drop k l)
+
+-- ---- the tests of every field pass the blanks, and nothing else
+no-link : (link : Link) → not (linked link) ≡ true → link ≡ Unlinked
+no-link Unlinked t = refl
+no-link (To n) t = absurd (true-is-not-false t)
+
+no-number : (number : Seq) → not (numbered number) ≡ true → number ≡ Unset
+no-number Unset t = refl
+no-number (Is n) t = absurd (true-is-not-false t)
+
+nak-kind : (kind : Kind) → isNak kind ≡ true → kind ≡ SetRNak
+nak-kind (SetR new expected number) t = absurd (true-is-not-false t)
+nak-kind (SetRAck number) t = absurd (true-is-not-false t)
+nak-kind SetRNak t = refl
+nak-kind (SetL left number) t = absurd (true-is-not-false t)
+
+pub vacant-node : (u : Node) → isVacantNode u ≡ true → u ≡ vacantNode
+vacant-node u h =
+    let (status, a) = both (isOut (u .status)) _ h in
+    let (key, b) = both (eqb (u .key) 0) _ a in
+    let (links, c) = both (not (linked (u .left)) && not (linked (u .right))) _ b in
+    let (left, right) = both (not (linked (u .left))) _ links in
+    let (lseq, rseq) = both (eqb (u .lseq) firstSeq) _ c in
+    λ i. record {
+      status = tested-out (u .status) status i;
+      key = eqb-true (u .key) 0 key i;
+      left = no-link (u .left) left i;
+      right = no-link (u .right) right i;
+      lseq = eqb-true (u .lseq) firstSeq lseq i;
+      rseq = no-number (u .rseq) rseq i;
+    }
+
+pub vacant-message : (m : Message) → isVacantMessage m ≡ true → m ≡ vacantMessage
+vacant-message m h =
+    let (sender, a) = both (eqb (m .sender) 0) _ h in
+    let (to, kind) = both (eqb (m .to) 0) _ a in
+    λ i. record { sender = eqb-true (m .sender) 0 sender i; to = eqb-true (m .to) 0 to i; kind = nak-kind (m .kind) kind i }
+
+pub node-is-vacant : isVacantNode vacantNode ≡ true
+node-is-vacant = rw (eq-eqb firstSeq firstSeq refl)
+
+-- ---- lists put into arrays come out again
+pub live-held : (s : State) → live (held s) ≡ s
+live-held s = simp take-append-seam
+
+pub held-well-formed : (s : State) → listsAreWellFormed s ≡ true → wellFormed (held s) ≡ true
+unfolding wellFormed
+held-well-formed s h =
+    let w = lists-formed s h in
+    let few = le-leb (length (s .nodes)) capacity (w .few-nodes) in
+    let little = le-leb (length (s .messages)) queueLimit (w .few-messages) in
+    let nodes = past-blank vacantNode isVacantNode capacity (s .nodes) node-is-vacant in
+    let messages = past-blank vacantMessage isVacantMessage queueLimit (s .messages) refl in
+    let lists : listsAreWellFormed (live (held s)) ≡ true = rw (live-held s) h in
+    simp (few, little, nodes, messages, lists)
+
+-- ---- and a well-formed network is what holds its lists
+-- the facts that the test says
+pub record WellFormed (n : Network) : Type 0 where
+  pub few-nodes : n .count ≤ capacity
+  pub few-messages : n .waiting ≤ queueLimit
+  pub vacant-nodes : every isVacantNode (drop (n .count) (n .nodes)) ≡ true
+  pub vacant-messages : every isVacantMessage (drop (n .waiting) (n .messages)) ≡ true
+  pub lists : listsAreWellFormed (live n) ≡ true
+
+pub formed : (n : Network) → wellFormed n ≡ true → WellFormed n
+unfolding wellFormed
+formed n h =
+    let (limits, a) = both (leb (n .count) capacity && leb (n .waiting) queueLimit) _ h in
+    let (few, little) = both (leb (n .count) capacity) _ limits in
+    let (vacant, lists) = both (every isVacantNode (drop (n .count) (n .nodes)) && every isVacantMessage (drop (n .waiting) (n .messages))) _ a in
+    let (nodes, messages) = both (every isVacantNode (drop (n .count) (n .nodes))) _ vacant in
+    record { few-nodes = leb-true _ _ few; few-messages = leb-true _ _ little; vacant-nodes = nodes; vacant-messages = messages; lists = lists }
+
+pub held-live : (n : Network) → length (n .nodes) ≡ capacity → length (n .messages) ≡ queueLimit → wellFormed n ≡ true → held (live n) ≡ n
+held-live n nodes messages h =
+    let w = formed n h in
+    λ i. record {
+      nodes = refilled vacantNode isVacantNode vacant-node (n .nodes) capacity (n .count) nodes (w .few-nodes) (w .vacant-nodes) i;
+      count = length-take-le (n .count) (n .nodes) (omega arith) i;
+      messages = refilled vacantMessage isVacantMessage vacant-message (n .messages) queueLimit (n .waiting) messages (w .few-messages) (w .vacant-messages) i;
+      waiting = length-take-le (n .waiting) (n .messages) (omega arith) i;
+    }
+
+-- ---- so a refused call hands back the same network
+pub refused-same : (n : Network) (call : Call) (number : ℕ) → length (n .nodes) ≡ capacity → length (n .messages) ≡ queueLimit → wellFormed n ≡ true
+    → applyToLists (live n) call ≡ listsRefused (live n) number → applyOf n call ≡ refused n number
+unfolding applyOf
+refused-same n call number nodes messages h e = rw (h, e, held-live n nodes messages h)
+
+-- ---- calls on the arrays follow the calls on the lists
+pub apply-held : (s : State) (call : Call) → listsAreWellFormed s ≡ true → applyOf (held s) call ≡ inArrays (applyToLists s call)
+unfolding applyOf
+apply-held s call h = rw (held-well-formed s h, live-held s)
+
+run-held : (calls : List Call) (h : History) → listsAreWellFormed (h .state) ≡ true → run (held (h .state)) calls ≡ held (runLists h calls .state)
+run-held [] h w = refl
+run-held (call ∷ calls) h w =
+    let kept = is-true _ (steady (h .state) (holds w) .kept call) in
+    rw (apply-held (h .state) call w) (run-held calls (advanced h call) kept)
+
+pub run-empty : (calls : List Call) → run empty calls ≡ held (history calls .state)
+unfolding listsAreWellFormed
+run-empty calls = run-held calls start refl
+
+pub run-live : (calls : List Call) → live (run empty calls) ≡ history calls .state
+run-live calls = rw (run-empty calls) (live-held (history calls .state))
+
+lists-stay-well-formed : (calls : List Call) → listsAreWellFormed (history calls .state) ≡ true
+lists-stay-well-formed calls = is-true _ (ring calls .well-formed)
+
+pub run-well-formed : (calls : List Call) → wellFormed (run empty calls) ≡ true
+run-well-formed calls = rw (run-empty calls) (held-well-formed (history calls .state) (lists-stay-well-formed calls))
+
+-- and what the next call says is what the rules say of the lists
+pub run-says : (calls : List Call) (call : Call) → applyOf (run empty calls) call .said ≡ applyToLists (history calls .state) call .said
+run-says calls call = rw (run-empty calls, apply-held (history calls .state) call (lists-stay-well-formed calls))
