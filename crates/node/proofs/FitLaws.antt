@@ -25,7 +25,7 @@ use Rattle.node.specs.declared.Kind.{Kind}
 use Rattle.node.specs.declared.Kind.the-variants.{SetR, SetRAck, SetRNak, SetL}
 use Rattle.node.specs.declared.Message.{Message}
 use Rattle.node.specs.declared.Peer.{Peer}
-use Rattle.node.specs.Shape.{isOut, isIn, isInOrDel, linked, linkFits, numbered, nodeFits, kindFits, messageFits, capacity, wellFormed, deliverable}
+use Rattle.node.specs.Shape.{isOut, isIn, isInOrDel, linked, linkFits, numbered, nodeFits, kindFits, messageFits, capacity, wellFormed, deliverable, peerFits}
 use Rattle.node.specs.declared.Outcome.{Outcome}
 use Rattle.node.specs.declared.Outcome.the-variants.{Waiting, LeftOld, Dropped}
 use Rattle.node.specs.Actions.{Effect, refused, quiet, posting, setL, withStatus, target, seqOf, linksTo, createRules, creating, createOf, joinRules, asking, joinOf, alone, leaveRules, leaveRequest, leaving, leaveOf, grants, notice, ack, relinked, granting, onSetR, admitted, onSetRAck, onSetRNak, leftSet, onSetL, onKind, actOf, receiveRules, receiveOf}
@@ -267,3 +267,7 @@ module _ {count : ℕ} (few : count ≤ capacity) where
   pub deliverable-among : (m : Message) → messageFits count m ≡ true → deliverable (m .to) m ≡ true
   unfolding deliverable
   deliverable-among m h = simp (eq-eqb (m .to) (m .to) refl, message-fits-more few m h)
+
+  pub peer-among : (p : Peer) → p .number < count → inRange (p .key) ≡ true → peerFits p ≡ true
+  unfolding peerFits
+  peer-among p h key = simp (lt-ltb (p .number) capacity (omega arith), key)

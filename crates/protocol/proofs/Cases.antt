@@ -10,7 +10,7 @@ use native.Mathlib.Omega.{arith}
 use native.Mathlib.Decide.{ℕ-discrete}
 use lib.ListN.{length}
 use lib.Dec.{ltb, eqb}
-use borrow.Author.Tests.{ltb-true, eqb-false, eq-eqb, not-true, not-false}
+use borrow.Author.Tests.{ltb-true, lt-ltb, eqb-false, eq-eqb, not-true, not-false}
 use Rattle.truth.proofs.Laws.{or-right, left-fails, by-test}
 use Rattle.truth.proofs.TestLaws.{_∈_, decided, holds, not-both, count-in, below-at}
 use Rattle.refusal.specs.Rules.{first, settled}
@@ -31,20 +31,20 @@ use Rattle.node.proofs.FitLaws.{NodeFits, message-facts, left-named, right-name
 use Rattle.protocol.specs.declared.Call.{Call}
 use Rattle.protocol.specs.declared.Call.the-variants.{Declare, Create, Join, Leave, Deliver}
 use Rattle.protocol.specs.State.{State, queueLimit, nodeAt, statusAt, keyAt, leftAt, rightAt, isRequest, isAnswer, isDealingOf, dealings, wellFormed}
-use Rattle.protocol.specs.Calls.{refused, commit, isFull, declareRules, declaring, createRules, creating, peerAt, joinRules, joining, leaveRules, leaving, messageAt, without, wouldGrant, deliverRules, receiving, delivering, rulesOf, effectOf, applyOf}
+use Rattle.protocol.specs.Calls.{refused, commit, isFull, isGrantable, declareRules, declaring, createRules, creating, peerAt, joinRules, joining, leaveRules, leaving, messageAt, without, wouldGrant, deliverRules, receiving, delivering, rulesOf, effectOf, applyOf}
 use Rattle.protocol.proofs.Waiting.{taken}
-use Rattle.protocol.proofs.Facts.{WellFormed, formed}
-use Rattle.protocol.proofs.Changes.{Grants, Act, drops, lets-in, lets-go, denies, joins, goes, stays-out, stays-in, takes, ignores, Change, refuses, declares, creates, asks, goes-alone, leaves, delivers}
+use Rattle.protocol.proofs.Facts.{WellFormed, formed, tested}
+use Rattle.protocol.proofs.Changes.{Delivers, Grants, Act, drops, lets-in, lets-go, denies, joins, goes, stays-out, stays-in, takes, ignores, Accepted, declares, creates, asks, goes-alone, leaves, delivers, Change, refuses, accepts}
 
 -- ---- what the tests say
-tested-below : (n m : ℕ) → not (ltb n m) ≡ false → n < m
+pub tested-below : (n m : ℕ) → not (ltb n m) ≡ false → n < m
 tested-below n m e = ltb-true n m (not-false (ltb n m) e)
 
 tested-between : (a b u : ℕ) → not (between a b u) ≡ false → Between a b u
 tested-between a b u e = between-iff a b u .0 (holds (not-false (between a b u) e))
 
 -- ---- the calls
-declare-case : (s : State) (key : ℕ) → first (declareRules s key) ≡ none → Change s (Declare key) (declaring s key)
+declare-case : (s : State) (key : ℕ) → first (declareRules s key) ≡ none → Accepted s (Declare key) (declaring s key)
 declare-case s key clear =
     let (_, (fits, (room, (new, _)))) = cleared (declareRules s key) clear in
     let differs = below-at (length (s .nodes)) (λ v. not (eqb (keyAt s v) key)) (not-false _ new) in
@@ -54,7 +54,7 @@ declare-case s key clear =
       is-new = λ v h. eqb-false (keyAt s v) key (not-true _ (differs v h));
     } refl
 
-create-case : (s : State) (u : ℕ) → first (createRules s u) ≡ none → Change s (Create u) (creating s u)
+create-case : (s : State) (u : ℕ) → first (createRules s u) ≡ none → Accepted s (Create u) (creating s u)
 create-case s u clear =
     let (ok, (known, (out, (no-notice, _)))) = cleared (createRules s u) clear in
     let w = formed s (not-false (wellFormed s) ok) in
@@ -67,7 +67,7 @@ create-case s u clear =
       no-notice = no-notice;
     } (rw (create-accepted u (nodeAt s u) (ap not sound, (ap not (all-out u declared), tt)), append-nil))
 
-join-case : (s : State) (u p q : ℕ) → first (joinRules s u p q) ≡ none → Change s (Join u p q) (joining s u p q)
+join-case : (s : State) (u p q : ℕ) → first (joinRules s u p q) ≡ none → Accepted s (Join u p q) (joining s u p q)
 join-case s u p q clear =
     let (_, (known, (left, (right, (sound, (out, (lies, (no-notice, (room, _))))))))) = cleared (joinRules s u p q) clear in
     asks u p q refl record {
@@ -80,7 +80,7 @@ join-case s u p q clear =
       room = tested-below (length (s .messages)) queueLimit room;
     } (rw (join-accepted u (nodeAt s u) (peerAt s p) (peerAt s q) (sound, (out, (lies, tt)))))
 
-leave-case : (s : State) (u : ℕ) → first (leaveRules s u) ≡ none → Change s (Leave u) (leaving s u)
+leave-case : (s : State) (u : ℕ) → first (leaveRules s u) ≡ none → Accepted s (Leave u) (leaving s u)
 leave-case s u clear =
     let (ok, (known, (sound, (inside, (unspent, (room, _)))))) = cleared (leaveRules s u) clear in
     let declared : u < length (s .nodes) = tested-below u _ known in
@@ -172,18 +172,32 @@ module _ (s : State) (w : WellFormed s) (m : Message) (waits : m ∈ s .messages
       (λ t. drops (tested-out (statusAt s (m .to)) t) (rw append-nil))
       (λ f. kind-case s (m .sender) (m .to) rest fits (λ o. not-both (ap isOut o) f) (m .kind) room answered-not-in))
 
-deliver-case : (s : State) (place : ℕ) → first (deliverRules s place) ≡ none → Change s (Deliver place) (delivering s place)
+-- a message that waits, where it is not a request that a full queue bars
+waiting-case : (s : State) (w : WellFormed s) (place : ℕ) → place < length (s .messages) → (isFull s && isGrantable s place) ≡ false
+    → Delivers s place (messageAt s place) (without place (s .messages)) × Act s (messageAt s place) (without place (s .messages)) (delivering s place)
+waiting-case s w place present room =
+    let out = taken s place present in (
+      record { at = refl; taken = out; declared = declared-addressee s w (messageAt s place) (out .waits) },
+      receive-case s w (messageAt s place) (out .waits) (without place (s .messages)) (λ g. tested-below (length (s .messages)) queueLimit (left-fails (isFull s) _ room g)),
+    )
+
+deliver-case : (s : State) (place : ℕ) → first (deliverRules s place) ≡ none → Accepted s (Deliver place) (delivering s place)
 deliver-case s place clear =
     let (ok, (room, (absent, _))) = cleared (deliverRules s place) clear in
-    let w = formed s (not-false (wellFormed s) ok) in
     let present : ltb place (length (s .messages)) ≡ true = not-false _ absent in
-    let out = taken s place (ltb-true place _ present) in
-    delivers place (messageAt s place) (without place (s .messages)) refl record { at = refl; taken = out; declared = declared-addressee s w (messageAt s place) (out .waits) }
-    (receive-case s w (messageAt s place) (out .waits) (without place (s .messages))
-    (λ g. tested-below (length (s .messages)) queueLimit (left-fails (isFull s) _ room (rw present g))))
+    let (d, act) = waiting-case s (formed s (not-false (wellFormed s) ok)) place (ltb-true place _ present) (rw present at room) in
+    delivers place (messageAt s place) (without place (s .messages)) refl d act
+
+-- so on a well-formed network a delivery is refused by 28 and 29 alone
+pub delivery : {s : State} {place : ℕ} → WellFormed s → place < length (s .messages) → (isFull s && isGrantable s place) ≡ false
+    → Act s (messageAt s place) (without place (s .messages)) (applyOf s (Deliver place))
+unfolding applyOf
+delivery {s} {place} w present room =
+    let clear : first (deliverRules s place) ≡ none = rw (tested s w, lt-ltb place (length (s .messages)) present, room) in
+    rw clear (waiting-case s w place present room .1)
 
 -- ---- any call
-accepted-case : (s : State) (call : Call) → first (rulesOf s call) ≡ none → Change s call (effectOf s call)
+pub accepted-case : (s : State) (call : Call) → first (rulesOf s call) ≡ none → Accepted s call (effectOf s call)
 accepted-case s (Declare key) clear = declare-case s key clear
 accepted-case s (Create u) clear = create-case s u clear
 accepted-case s (Join u p q) clear = join-case s u p q clear
@@ -194,6 +208,6 @@ pub change : (s : State) (call : Call) → Change s call (applyOf s call)
 unfolding applyOf
 change s call = go (first (rulesOf s call)) (accepted-case s call)
   where
-    go : (o : Option ℕ) → (o ≡ none → Change s call (effectOf s call)) → Change s call (settled o (refused s) (effectOf s call))
-    go none accepted = accepted refl
+    go : (o : Option ℕ) → (o ≡ none → Accepted s call (effectOf s call)) → Change s call (settled o (refused s) (effectOf s call))
+    go none accepted = accepts (accepted refl)
     go (some n) accepted = refuses n refl

@@ -93,14 +93,18 @@ pub data Act (s : State) (m : Message) (rest : List Message) (r : Result) : Type
   takes : (p u a n : ℕ) → m ≡ setL p u a n → statusAt s u ≢ Out → newer n (nodeAt s u .lseq) ≡ true → r ≡ moved s u (leftSet (nodeAt s u) a n) rest LeftSet → Act s m rest r
   ignores : (p u a n : ℕ) → m ≡ setL p u a n → statusAt s u ≢ Out → newer n (nodeAt s u .lseq) ≡ false → r ≡ moved s u (nodeAt s u) rest LeftOld → Act s m rest r
 
+-- ---- what a call does that is not refused
+pub data Accepted (s : State) (call : Call) (r : Result) : Type 0 where
+  declares : (key : ℕ) → call ≡ Declare key → Declares s key → r ≡ declaring s key → Accepted s call r
+  creates : (u : ℕ) → call ≡ Create u → Creates s u → r ≡ moved s u (created u (nodeAt s u)) (s .messages) Created → Accepted s call r
+  asks : (u p q : ℕ) → call ≡ Join u p q → Joins s u p q
+      → r ≡ moved s u (joining (nodeAt s u) (peerAt s p) (peerAt s q)) (s .messages ++ setR u p u q (nodeAt s u .lseq) ∷ []) Waiting → Accepted s call r
+  goes-alone : (u : ℕ) → call ≡ Leave u → LeavesAlone s u → r ≡ moved s u (withStatus Out (nodeAt s u)) (s .messages) LeftAlone → Accepted s call r
+  leaves : (u p q n : ℕ) → call ≡ Leave u → Leaves s u p q n
+      → r ≡ moved s u (withStatus Del (nodeAt s u)) (s .messages ++ setR u p q u (nextSeq n) ∷ []) Waiting → Accepted s call r
+  delivers : (place : ℕ) (m : Message) (rest : List Message) → call ≡ Deliver place → Delivers s place m rest → Act s m rest r → Accepted s call r
+
 -- ---- what a call does
 pub data Change (s : State) (call : Call) (r : Result) : Type 0 where
   refuses : (n : ℕ) → r ≡ refused s n → Change s call r
-  declares : (key : ℕ) → call ≡ Declare key → Declares s key → r ≡ declaring s key → Change s call r
-  creates : (u : ℕ) → call ≡ Create u → Creates s u → r ≡ moved s u (created u (nodeAt s u)) (s .messages) Created → Change s call r
-  asks : (u p q : ℕ) → call ≡ Join u p q → Joins s u p q
-      → r ≡ moved s u (joining (nodeAt s u) (peerAt s p) (peerAt s q)) (s .messages ++ setR u p u q (nodeAt s u .lseq) ∷ []) Waiting → Change s call r
-  goes-alone : (u : ℕ) → call ≡ Leave u → LeavesAlone s u → r ≡ moved s u (withStatus Out (nodeAt s u)) (s .messages) LeftAlone → Change s call r
-  leaves : (u p q n : ℕ) → call ≡ Leave u → Leaves s u p q n
-      → r ≡ moved s u (withStatus Del (nodeAt s u)) (s .messages ++ setR u p q u (nextSeq n) ∷ []) Waiting → Change s call r
-  delivers : (place : ℕ) (m : Message) (rest : List Message) → call ≡ Deliver place → Delivers s place m rest → Act s m rest r → Change s call r
+  accepts : Accepted s call r → Change s call r

@@ -27,7 +27,7 @@ use Rattle.protocol.proofs.Waiting.{Taken}
 use Rattle.protocol.proofs.Facts.{WellFormed}
 use Rattle.protocol.proofs.Changes.{Creates, Joins, LeavesAlone, Leaves, Grants}
 use Rattle.protocol.proofs.Changes.{Act, drops, lets-in, lets-go, denies, joins, goes, stays-out, stays-in, takes, ignores}
-use Rattle.protocol.proofs.Changes.{Change, refuses, declares, creates, asks, goes-alone, leaves, delivers}
+use Rattle.protocol.proofs.Changes.{Accepted, declares, creates, asks, goes-alone, leaves, delivers, Change, refuses, accepts}
 use Rattle.protocol.proofs.Moves.{AllFit, with-posts, Moves, moved-kept, declare-kept}
 
 -- ---- whose dealing a message is: a request is its sender's; that an answer is the addressee's computes
@@ -192,11 +192,14 @@ module _ {s : State} (w : WellFormed s) where
       let h : u < length (s .nodes) = rw em at h in
       rw er (moved-kept w (keeps-status t h refl refl (w .node u h)))
 
+accepted-kept : {s : State} {call : Call} {r : Result} → WellFormed s → Accepted s call r → WellFormed (r .state)
+accepted-kept w (declares key ec h er) = rw er (declare-kept w h)
+accepted-kept w (creates u ec h er) = rw er (moved-kept w (create-kept w h))
+accepted-kept w (asks u p q ec h er) = rw er (moved-kept w (join-kept w h))
+accepted-kept w (goes-alone u ec h er) = rw er (moved-kept w (leave-alone-kept w h))
+accepted-kept w (leaves u p q n ec h er) = rw er (moved-kept w (leave-kept w h))
+accepted-kept w (delivers place m rest ec h act) = act-kept w (h .taken) (h .declared) act
+
 pub kept : {s : State} {call : Call} {r : Result} → WellFormed s → Change s call r → WellFormed (r .state)
 kept w (refuses n er) = rw er w
-kept w (declares key ec h er) = rw er (declare-kept w h)
-kept w (creates u ec h er) = rw er (moved-kept w (create-kept w h))
-kept w (asks u p q ec h er) = rw er (moved-kept w (join-kept w h))
-kept w (goes-alone u ec h er) = rw er (moved-kept w (leave-alone-kept w h))
-kept w (leaves u p q n ec h er) = rw er (moved-kept w (leave-kept w h))
-kept w (delivers place m rest ec h act) = act-kept w (h .taken) (h .declared) act
+kept w (accepts a) = accepted-kept w a

@@ -3,6 +3,7 @@ pub mod Facts
 pub mod Waiting
 pub mod Changes
 pub mod Cases
+pub mod Refusals
 pub mod Moves
 pub mod Kept
 pub mod Lively

@@ -3,40 +3,38 @@
 -- requests, since each of at most 32 nodes has at most one waiting; the delivery of such a one is not refused. Assumes nothing.
 use mathlib.Core.Path.{_≡_, refl, sym, ap}
 use mathlib.Core.Logic.{⊎-elim}
-use mathlib.Core.Bool.{Bool, true, false, not, _&&_, _||_, cond}
+use mathlib.Core.Bool.{Bool, true, false, not, _&&_, _||_}
 use mathlib.Core.List.{List, [], _∷_, _++_, List·Memᴰ·head as here, List·Memᴰ·tail as there}
-use mathlib.Core.Option.{none}
 use Prim.Native.Nat.{ℕ, zero, suc, _+_, _≤_, _<_}
 use native.Mathlib.Omega.{arith}
 use native.Mathlib.Decide.{ℕ-discrete}
 use lib.ListN.{length, getD}
 use lib.Dec.{ltb}
-use borrow.Author.Tests.{ltb-true, ltb-false, lt-ltb, eq-eqb, not-true}
+use borrow.Author.Tests.{ltb-true, ltb-false, eq-eqb, not-true}
 use Rattle.truth.specs.Tests.{bit, count}
 use Rattle.truth.proofs.Laws.{true-is-not-false}
 use Rattle.truth.proofs.TestLaws.{decided, holds, is-true, count-append}
-use Rattle.refusal.specs.Rules.{first}
-use Rattle.sequence.specs.Sequence.{nextSeq, cappedNext, newer}
+use Rattle.sequence.specs.Sequence.{nextSeq, cappedNext}
 use Rattle.node.specs.declared.Status.{Status}
 use Rattle.node.specs.declared.Status.the-variants.{Out, Ins, In, Del}
 use Rattle.node.specs.declared.Node.{Node}
 use Rattle.node.specs.declared.Kind.{Kind}
 use Rattle.node.specs.declared.Kind.the-variants.{SetR, SetRAck, SetRNak, SetL}
 use Rattle.node.specs.declared.Message.{Message}
-use Rattle.node.specs.Shape.{isOut, wellFormed as nodeIsSound, deliverable}
-use Rattle.node.specs.Actions.{Effect, setR, setRAck, setRNak, setL, grants, onSetRAck, onSetRNak, onKind, receiveOf}
-use Rattle.node.proofs.FitLaws.{message-facts, well-formed-among, deliverable-among}
+use Rattle.node.specs.Actions.{setR, setRAck, setRNak, setL}
+use Rattle.node.proofs.FitLaws.{message-facts}
 use Rattle.protocol.specs.declared.Call.{Call}
 use Rattle.protocol.specs.declared.Call.the-variants.{Deliver}
 use Rattle.protocol.specs.State.{State, queueLimit, nodeAt, statusAt, isRequest, isDealingOf, dealings, wellFormed}
-use Rattle.protocol.specs.Calls.{Result, stepped, isFull, messageAt, wouldGrant, isGrantable, deliverRules, applyOf}
+use Rattle.protocol.specs.Calls.{Result, isFull, messageAt, wouldGrant, isGrantable, applyOf}
 use Rattle.protocol.specs.History.{accepted}
 use Rattle.protocol.specs.Claim.{Delivers, delivered, load, Lively, SteadyClaim}
 use Rattle.protocol.proofs.Waiting.{Taken, taken}
 use Rattle.protocol.proofs.Facts.{WellFormed, formed, tested}
 use Rattle.protocol.proofs.Changes.{Act, drops, lets-in, lets-go, denies, joins, goes, stays-out, stays-in, takes, ignores}
-use Rattle.protocol.proofs.Changes.{Change, refuses, declares, creates, asks, goes-alone, leaves, delivers}
-use Rattle.protocol.proofs.Cases.{change}
+use Rattle.protocol.proofs.Changes.{Accepted, declares, creates, asks, goes-alone, leaves, delivers, Change, refuses, accepts}
+use Rattle.protocol.proofs.Refusals.{act-accepted}
+use Rattle.protocol.proofs.Cases.{delivery, change}
 use Rattle.protocol.proofs.Moves.{AllFit}
 use Rattle.protocol.proofs.Kept.{kept}
 
@@ -80,14 +78,17 @@ act-lowers t (stays-in p u em e er) = rw er (gone t)
 act-lowers t (takes p u a n em o new er) = rw er (gone t)
 act-lowers t (ignores p u a n em o old er) = rw er (gone t)
 
-deliver-lowers : {s : State} {call : Call} {place : ℕ} {r : Result} → call ≡ Deliver place → Change s call r → Lowers s r
-deliver-lowers e (refuses n er) = rw er (omega arith)
-deliver-lowers e (declares key ec h er) = let z : _≡_ {A = ℕ} 0 1 = cc in absurd (omega arith)
-deliver-lowers e (creates u ec h er) = let z : _≡_ {A = ℕ} 0 1 = cc in absurd (omega arith)
-deliver-lowers e (asks u p q ec h er) = let z : _≡_ {A = ℕ} 0 1 = cc in absurd (omega arith)
-deliver-lowers e (goes-alone u ec h er) = let z : _≡_ {A = ℕ} 0 1 = cc in absurd (omega arith)
-deliver-lowers e (leaves u p q n ec h er) = let z : _≡_ {A = ℕ} 0 1 = cc in absurd (omega arith)
-deliver-lowers e (delivers place m rest ec h act) = act-lowers (h .taken) act
+accepted-lowers : {s : State} {call : Call} {place : ℕ} {r : Result} → call ≡ Deliver place → Accepted s call r → Lowers s r
+accepted-lowers e (declares key ec h er) = let z : _≡_ {A = ℕ} 0 1 = cc in absurd (omega arith)
+accepted-lowers e (creates u ec h er) = let z : _≡_ {A = ℕ} 0 1 = cc in absurd (omega arith)
+accepted-lowers e (asks u p q ec h er) = let z : _≡_ {A = ℕ} 0 1 = cc in absurd (omega arith)
+accepted-lowers e (goes-alone u ec h er) = let z : _≡_ {A = ℕ} 0 1 = cc in absurd (omega arith)
+accepted-lowers e (leaves u p q n ec h er) = let z : _≡_ {A = ℕ} 0 1 = cc in absurd (omega arith)
+accepted-lowers e (delivers place m rest ec h act) = act-lowers (h .taken) act
+
+deliver-lowers : {s : State} {place : ℕ} {r : Result} → Change s (Deliver place) r → Lowers s r
+deliver-lowers (refuses n er) = rw er (omega arith)
+deliver-lowers (accepts a) = accepted-lowers refl a
 
 -- ---- the sum of f over the numbers below n
 abbrev total : (ℕ → ℕ) → ℕ → ℕ
@@ -163,47 +164,8 @@ found test (x ∷ l) d h = go (test x) refl (found test l d)
     go true e later = (0, omega arith, e)
     go false e later = let (place, waits, passes) = later (omega (arith, ap bit e)) in (suc place, omega arith, passes)
 
--- ---- a node refuses no message but by rule 6
-abbrev acts : Effect → Bool
-acts e = accepted (stepped (e .said))
-
-acts-either : (b : Bool) (x y : Effect) → acts x ≡ true → acts y ≡ true → acts (cond b x y) ≡ true
-acts-either true x y f g = f
-acts-either false x y f g = g
-
-ack-acts : (status : Status) (u : Node) (number : ℕ) → acts (onSetRAck status u number) ≡ true
-ack-acts Out u number = refl
-ack-acts Ins u number = refl
-ack-acts In u number = refl
-ack-acts Del u number = refl
-
-nak-acts : (status : Status) (u : Node) → acts (onSetRNak status u) ≡ true
-nak-acts Out u = refl
-nak-acts Ins u = refl
-nak-acts In u = refl
-nak-acts Del u = refl
-
-kind-acts : (me : ℕ) (u : Node) (v : ℕ) (kind : Kind) → acts (onKind me u v kind) ≡ true
-kind-acts me u v (SetR new expected number) = acts-either (grants u v new expected) _ _ refl refl
-kind-acts me u v (SetRAck number) = ack-acts (u .status) u number
-kind-acts me u v SetRNak = nak-acts (u .status) u
-kind-acts me u v (SetL left number) = acts-either (newer number (u .lseq)) _ _ refl refl
-
-receives : (me : ℕ) (u : Node) (m : Message) → nodeIsSound me u ≡ true → deliverable me m ≡ true → acts (receiveOf me u m) ≡ true
-unfolding receiveOf
-receives me u m sound fits = rw (sound, fits) (acts-either (isOut (u .status)) _ _ refl (kind-acts me u (m .sender) (m .kind)))
-
--- ---- on a well-formed network a delivery is refused by 28 and 29 alone
 not-refused : {s : State} {place : ℕ} → WellFormed s → place < length (s .messages) → (isFull s && isGrantable s place) ≡ false → Delivers s place
-unfolding applyOf
-not-refused {s} {place} w h room =
-    let m = messageAt s place in
-    let fits = w .message m (taken s place h .waits) in
-    let to = ltb-true (m .to) (length (s .nodes)) (message-facts (length (s .nodes)) m fits .to) in
-    let sound = well-formed-among (w .few-nodes) (m .to) to (w .node (m .to) to) in
-    let mine = deliverable-among (w .few-nodes) m fits in
-    let clear : first (deliverRules s place) ≡ none = rw (tested s w, lt-ltb place (length (s .messages)) h, room) in
-    rw (clear, receives (m .to) (nodeAt s (m .to)) m sound mine) tt
+not-refused w h room = act-accepted (delivery w h room)
 
 not-grantable : (p : Node) (v : ℕ) (kind : Kind) → isRequest kind ≡ false → wouldGrant p v kind ≡ false
 not-grantable p v (SetR new expected number) h = absurd (true-is-not-false (sym h))
@@ -228,7 +190,7 @@ progress s w h = ⊎-elim with-room full (decided (ltb (length (s .messages)) qu
 -- ---- so every well-formed network is steady
 pub bound : (s : State) (places : List ℕ) → delivered s places ≤ load (s .messages)
 bound s [] = omega arith
-bound s (place ∷ places) = omega (arith, deliver-lowers refl (change s (Deliver place)), bound (applyOf s (Deliver place) .state) places)
+bound s (place ∷ places) = omega (arith, deliver-lowers (change s (Deliver place)), bound (applyOf s (Deliver place) .state) places)
 
 pub lively : (s : State) → WellFormed s → Lively s
 lively s w = record { progress = progress s w; bound = bound s }

@@ -41,7 +41,7 @@ use Rattle.protocol.proofs.Waiting.{Taken, Dealt}
 use Rattle.protocol.proofs.Fields.{statusOf, senderOf}
 use Rattle.protocol.proofs.Facts.{WellFormed, tested}
 use Rattle.protocol.proofs.Changes.{Act, drops, lets-in, lets-go, denies, joins, goes, stays-out, stays-in, takes, ignores}
-use Rattle.protocol.proofs.Changes.{Change, refuses, declares, creates, asks, goes-alone, leaves, delivers}
+use Rattle.protocol.proofs.Changes.{Accepted, declares, creates, asks, goes-alone, leaves, delivers, Change, refuses, accepts}
 use Rattle.protocol.proofs.Cases.{change}
 use Rattle.protocol.proofs.Moves.{unconcerned}
 use Rattle.protocol.proofs.Kept.{kept}
@@ -158,19 +158,22 @@ module _ (h : History) (g : Good h) where
       go (yes k) = out v k
       go (no k) = ap statusOf (past (h .state) v (omega arith))
 
+  accepted-holds : {call : Call} {r : Result} → Accepted (h .state) call r → After h call r
+  accepted-holds (declares key ec d er) = rw (ec, er)
+      (declares-kept (g .invariant) (ap statusOf (past (h .state) (length (h .state .nodes)) (omega arith))) known (declared-at (h .state) key))
+  accepted-holds (creates u ec c er) = rw (ec, er)
+      (creates-kept (dealt (g .formed)) (g .invariant) u (put-other (h .told) u true) (all-out (c .all-out)) (c .no-notice) (put-own (h .told) u true) (set-at (h .state .nodes) (c .declared)))
+  accepted-holds (asks u p q ec j er) = rw (ec, er)
+      (asks-kept (dealt (g .formed)) (g .invariant) u (put-other (h .joins) u true) (peerAt (h .state) p) (peerAt (h .state) q) (j .is-out) (put-own (h .joins) u true) (j .no-notice) (j .between) (set-at (h .state .nodes) (j .declared)))
+  accepted-holds (goes-alone u ec l er) = rw (ec, er)
+      (goes-alone-kept (dealt (g .formed)) (g .invariant) u (put-other (h .told) u false) (put-other (h .joins) u false) (l .is-in) (l .alone) (put-own (h .told) u false) (set-at (h .state .nodes) (l .declared)))
+  accepted-holds (leaves u p q n ec l er) = rw (ec, er)
+      (leaves-kept (dealt (g .formed)) (g .invariant) u (put-other (h .joins) u false) p q n (l .is-in) (put-own (h .joins) u false) (l .right) (l .not-alone) (l .number) (set-at (h .state .nodes) (l .declared)))
+  accepted-holds (delivers place m rest ec d act) = rw ec (act-holds place (d .at) (d .taken) (d .declared) act)
+
   call-holds : {call : Call} {r : Result} → Change (h .state) call r → After h call r
   call-holds {call} (refuses n er) = rw (er, told-refused h call n, joins-refused h call n) (g .invariant)
-  call-holds (declares key ec d er) = rw (ec, er)
-      (declares-kept (g .invariant) (ap statusOf (past (h .state) (length (h .state .nodes)) (omega arith))) known (declared-at (h .state) key))
-  call-holds (creates u ec c er) = rw (ec, er)
-      (creates-kept (dealt (g .formed)) (g .invariant) u (put-other (h .told) u true) (all-out (c .all-out)) (c .no-notice) (put-own (h .told) u true) (set-at (h .state .nodes) (c .declared)))
-  call-holds (asks u p q ec j er) = rw (ec, er)
-      (asks-kept (dealt (g .formed)) (g .invariant) u (put-other (h .joins) u true) (peerAt (h .state) p) (peerAt (h .state) q) (j .is-out) (put-own (h .joins) u true) (j .no-notice) (j .between) (set-at (h .state .nodes) (j .declared)))
-  call-holds (goes-alone u ec l er) = rw (ec, er)
-      (goes-alone-kept (dealt (g .formed)) (g .invariant) u (put-other (h .told) u false) (put-other (h .joins) u false) (l .is-in) (l .alone) (put-own (h .told) u false) (set-at (h .state .nodes) (l .declared)))
-  call-holds (leaves u p q n ec l er) = rw (ec, er)
-      (leaves-kept (dealt (g .formed)) (g .invariant) u (put-other (h .joins) u false) p q n (l .is-in) (put-own (h .joins) u false) (l .right) (l .not-alone) (l .number) (set-at (h .state .nodes) (l .declared)))
-  call-holds (delivers place m rest ec d act) = rw ec (act-holds place (d .at) (d .taken) (d .declared) act)
+  call-holds (accepts a) = accepted-holds a
 
 -- ---- from the empty network, over any list
 good-start : Good start

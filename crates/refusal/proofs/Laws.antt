@@ -3,7 +3,7 @@
 use mathlib.Core.Path.{_≡_, refl, sym, ap, _∙_}
 use mathlib.Core.Bool.{true, false, cond}
 use mathlib.Core.List.{List, [], _∷_}
-use mathlib.Core.Option.{none}
+use mathlib.Core.Option.{none, some}
 use Prim.Native.Nat.{ℕ, _-_}
 use native.Mathlib.Omega.{arith}
 use lib.ListN.{getD}
@@ -67,3 +67,13 @@ pub cleared : (rules : List Rule) → first rules ≡ none → Cleared rules
 cleared [] e = tt
 cleared ((n when true) ∷ rules) e = let z : _≡_ {A = ℕ} 0 1 = cc in absurd (omega arith)
 cleared ((n when false) ∷ rules) e = (refl, cleared rules e)
+
+-- ---- a number that is not given: wherever a rule has it, and no rule before it refuses, its condition does not hold
+abbrev pub Never : ℕ → List Rule → Type 0
+Never n [] = Unit {0}
+Never n ((m when refuses) ∷ rules) = (m ≡ n → refuses ≡ false) × (refuses ≡ false → Never n rules)
+
+pub never : (n : ℕ) (rules : List Rule) → Never n rules → first rules ≡ some n → ⊥
+never n [] t e = let z : _≡_ {A = ℕ} 0 1 = cc in omega arith
+never n ((m when true) ∷ rules) t e = let same : m ≡ n = cc in let f = t .0 same in let z : _≡_ {A = ℕ} 0 1 = cc in omega arith
+never n ((m when false) ∷ rules) t e = never n rules (t .1 refl) e
