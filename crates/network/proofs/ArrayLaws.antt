@@ -25,14 +25,14 @@ use Rattle.node.specs.declared.Message.{Message}
 use Rattle.node.specs.Shape.{isOut, linked, numbered, capacity}
 use Rattle.node.proofs.ActionLaws.{tested-out}
 use Rattle.protocol.specs.declared.Call.{Call}
-use Rattle.protocol.specs.State.{State, queueLimit, wellFormed as listsAreWellFormed}
+use Rattle.protocol.specs.State.{State, queueLimit, isNak, wellFormed as listsAreWellFormed}
 use Rattle.protocol.specs.Calls.{refused as listsRefused, applyOf as applyToLists}
 use Rattle.protocol.specs.History.{History, start, advanced, run as runLists, history}
 use Rattle.protocol.proofs.Facts.{formed as lists-formed}
 use Rattle.protocol.proofs.Lively.{steady}
 use Rattle.protocol.proofs.Theorem.{ring}
 use Rattle.network.specs.declared.Network.{Network}
-use Rattle.network.specs.Arrays.{vacantNode, vacantMessage, isVacantNode, isNak, isVacantMessage, live, wellFormed, filled, held, empty, refused, inArrays, applyOf, run}
+use Rattle.network.specs.Arrays.{vacantNode, vacantMessage, isVacantNode, isVacantMessage, live, wellFormed, filled, held, empty, refused, inArrays, applyOf, run}
 
 -- ---- a list that is filled up with a blank
 module _ {A : Type 0} (blank : A) (test : A → Bool) where

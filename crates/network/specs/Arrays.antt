@@ -1,7 +1,7 @@
 -- A network in fixed arrays (paper 01: a "floor"): which lists its arrays hold, when it is well formed ("in shape"), and what a call
 -- comes to. The rules of the calls are those of the crate `protocol`, over lists, and are not written a second time. Definitions only.
 use Prim.Native.Nat.{ℕ, _-_}
-use mathlib.Core.Bool.{Bool, true, false, not, _&&_, cond}
+use mathlib.Core.Bool.{Bool, not, _&&_, cond}
 use mathlib.Core.List.{List, [], _∷_, _++_}
 use lib.ListN.{length, take, drop, replicate}
 use lib.Dec.{leb, eqb}
@@ -10,14 +10,12 @@ use Rattle.refusal.specs.Code.{code}
 use Rattle.refusal.specs.Rules.{Coded, done, no}
 use Rattle.sequence.specs.Sequence.{firstSeq}
 use Rattle.node.specs.declared.Node.{Node}
-use Rattle.node.specs.declared.Kind.{Kind}
-use Rattle.node.specs.declared.Kind.the-variants.{SetR, SetRAck, SetRNak, SetL}
 use Rattle.node.specs.declared.Message.{Message}
 use Rattle.node.specs.Shape.{declaredOf, isOut, linked, numbered, capacity}
 use Rattle.node.specs.Actions.{setRNak}
 use Rattle.protocol.specs.declared.Call.{Call}
 use Rattle.protocol.specs.declared.Reply.{Reply}
-use Rattle.protocol.specs.State.{State, queueLimit, empty as emptyLists, wellFormed as listsAreWellFormed}
+use Rattle.protocol.specs.State.{State, queueLimit, isNak, empty as emptyLists, wellFormed as listsAreWellFormed}
 use Rattle.protocol.specs.Calls.{Result, applyOf as applyToLists}
 use Rattle.network.specs.declared.Network.{Network}
 use Rattle.network.specs.declared.Answer.{Answer}
@@ -40,13 +38,6 @@ isVacantNode u =
     && (eqb (u .key) 0
     && ((not (linked (u .left)) && not (linked (u .right)))
     && (eqb (u .lseq) firstSeq && not (numbered (u .rseq)))))
-
--- the one kind with no fields of its own
-abbrev pub isNak : Kind → Bool
-isNak (SetR new expected number) = false
-isNak (SetRAck number) = false
-isNak SetRNak = true
-isNak (SetL left number) = false
 
 -- whether a message is the blank: every field of it
 abbrev pub isVacantMessage : Message → Bool

@@ -10,27 +10,18 @@ use Rattle.truth.specs.Tests.{any}
 use Rattle.truth.proofs.Laws.{both}
 use Rattle.truth.proofs.TestLaws.{_∈_, decided, not-both}
 use Rattle.node.specs.declared.Status.the-variants.{Out}
-use Rattle.node.specs.declared.Kind.{Kind}
-use Rattle.node.specs.declared.Kind.the-variants.{SetR, SetRAck, SetRNak, SetL}
 use Rattle.node.specs.declared.Node.{Node}
 use Rattle.node.specs.declared.Message.{Message}
 use Rattle.node.specs.Actions.{setR, setRNak, setL}
-use Rattle.protocol.specs.State.{isAck, isAckTo, isNotice, dealings}
+use Rattle.protocol.specs.State.{isAck, isNak, isAckTo, isNotice, dealings}
 use Rattle.protocol.proofs.Waiting.{Taken, Dealt, apart, in-one, same-any, ack-dealing, no-dealing, acks-left}
 use Rattle.protocol.proofs.Fields.{statusOf, keyOf, leftOf, rightOf, lseqOf, rseqOf, toOf}
 use Rattle.protocol.proofs.Invariant.{isMember, Invariant}
 use Rattle.protocol.proofs.Frames.{At, unchanged, member-same, member-not-out, request-same, keeps-same, left-same, same-order}
 
--- SetRNak
-abbrev pub isDenial : Kind → Bool
-isDenial (SetR new expected number) = false
-isDenial (SetRAck number) = false
-isDenial SetRNak = true
-isDenial (SetL left number) = false
-
 -- no node changes; but for denials nothing comes, no acknowledgement goes, and no notice to a node that is not out
 pub unmoved : {N N′ : ℕ → Node} {M M′ : List Message} {told joins : ℕ → Bool} → Invariant N M told joins → ((u : ℕ) → N′ u ≡ N u)
-    → ((u : ℕ) → any (isAckTo u) M′ ≡ any (isAckTo u) M) → ((x : Message) → isDenial (x .kind) ≡ false → x ∈ M′ → x ∈ M)
+    → ((u : ℕ) → any (isAckTo u) M′ ≡ any (isAckTo u) M) → ((x : Message) → isNak (x .kind) ≡ false → x ∈ M′ → x ∈ M)
     → ((w u a n : ℕ) → N u .status ≢ Out → setL w u a n ∈ M → setL w u a n ∈ M′) → Invariant N′ M′ told joins
 unmoved {N} {N′} {M} {M′} inv same acks from to = record {
   dealings = record {
@@ -63,7 +54,7 @@ module _ {N N′ : ℕ → Node} {M rest : List Message} {told joins : ℕ → B
   denies-kept v p new e n t =
       unmoved inv (unchanged at (λ y. y) refl)
       (λ u. same-any (isAckTo u) _ rest (λ x a j. ⊎-elim (λ k. k) (λ d. absurd (apart (isAckTo u) a refl d)) (in-one rest j)) (λ x _ j. in-left _ j) ∙ acks-left u t refl)
-      (λ x f j. ⊎-elim (λ k. t .left x k) (λ d. absurd (apart (λ y. isDenial (y .kind)) refl f (sym d))) (in-one rest j))
+      (λ x f j. ⊎-elim (λ k. t .left x k) (λ d. absurd (apart (λ y. isNak (y .kind)) refl f (sym d))) (in-one rest j))
       (λ w u a k _ j. in-left _ (⊎-elim (λ d. absurd (apart (λ y. isNotice (y .kind)) refl refl d)) (λ l. l) (t .either _ j)))
 
   -- "A bench that is out drops every message"

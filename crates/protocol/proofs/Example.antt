@@ -1,6 +1,6 @@
 -- The definitions run on paper 01's example script: each call is answered as the paper prints it, and afterwards both nodes are inserted,
--- told so and by the definition, and link to each other both ways, with nothing waiting. So the claim is not about networks in which
--- nothing happens. Each line computes. Assumes nothing.
+-- told so and by the definition, and link to each other both ways, with nothing waiting. A longer list has granted leaves, refusal 25 and a
+-- second join. So the claim is not about networks in which nothing happens. Each line computes. Assumes nothing.
 use mathlib.Core.Path.{_≡_, refl}
 use mathlib.Core.Bool.{true, false}
 use mathlib.Core.List.{[], _∷_}
@@ -9,11 +9,11 @@ use Rattle.sequence.specs.Sequence.{firstSeq, lastSeq, nextSeq, newer, hasNext,
 use Rattle.links.specs.Walk.{walk, falls}
 use Rattle.node.specs.declared.Link.the-variants.{To}
 use Rattle.node.specs.Shape.{nodeFits, messageFits, wellFormed as nodeIsSound, deliverable, peerFits}
-use Rattle.node.specs.Actions.{createOf, joinOf, leaveOf, grants, receiveOf}
+use Rattle.node.specs.Actions.{setR, setL, createOf, joinOf, leaveOf, grants, receiveOf}
 use Rattle.protocol.specs.State.{empty, keyAt, leftAt, rightAt, wellFormed, inserted}
 use Rattle.protocol.specs.Calls.{applyOf}
 use Rattle.protocol.specs.History.{history}
-use Rattle.protocol.specs.Example.{answers, script, printed}
+use Rattle.protocol.specs.Example.{answers, script, printed, lateNotice, lateNoticeSaid}
 
 pub as-printed : answers empty script ≡ printed
 unfolding applyOf wellFormed between firstSeq lastSeq nextSeq newer hasNext cappedNext nodeFits messageFits nodeIsSound deliverable peerFits createOf joinOf leaveOf grants receiveOf
@@ -43,3 +43,16 @@ one-fall = refl
 pub nothing-waits : history script .state .messages ≡ []
 unfolding applyOf wellFormed between firstSeq lastSeq nextSeq newer hasNext cappedNext nodeFits messageFits nodeIsSound deliverable peerFits createOf joinOf leaveOf grants receiveOf
 nothing-waits = refl
+
+-- the longer list: the second join of 1 carries its left number, 2, and of the three only 0 is told inserted
+pub late-as-said : answers empty lateNotice ≡ lateNoticeSaid
+unfolding applyOf wellFormed between firstSeq lastSeq nextSeq newer hasNext cappedNext nodeFits messageFits nodeIsSound deliverable peerFits createOf joinOf leaveOf grants receiveOf
+late-as-said = refl
+
+pub second-join : history lateNotice .state .messages ≡ setL 0 0 1 1 ∷ setL 0 0 0 2 ∷ setR 1 0 1 0 2 ∷ []
+unfolding applyOf wellFormed between firstSeq lastSeq nextSeq newer hasNext cappedNext nodeFits messageFits nodeIsSound deliverable peerFits createOf joinOf leaveOf grants receiveOf
+second-join = refl
+
+pub only-0-is-told : history lateNotice .told 0 ∷ history lateNotice .told 1 ∷ history lateNotice .told 2 ∷ [] ≡ true ∷ false ∷ false ∷ []
+unfolding applyOf wellFormed between firstSeq lastSeq nextSeq newer hasNext cappedNext nodeFits messageFits nodeIsSound deliverable peerFits createOf joinOf leaveOf grants receiveOf
+only-0-is-told = refl

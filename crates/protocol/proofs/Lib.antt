@@ -15,5 +15,6 @@ pub mod Notices
 pub mod Orders
 pub mod Single
 pub mod Grants
+pub mod Steps
 pub mod Theorem
 pub mod Example

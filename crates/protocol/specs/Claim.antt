@@ -48,21 +48,24 @@ pub record Steady (s : State) : Type 0 where
 abbrev pub SteadyClaim : Type 0
 SteadyClaim = (s : State) → T (wellFormed s) → Steady s
 
+-- ---- the ring of the inserted nodes
+pub record Ringed (s : State) : Type 0 where
+  -- from each inserted node the right links lead once through each inserted node, through no other, and home; the key rises at every
+  -- move but one; a lone node moves to itself
+  pub circuit : (u : ℕ) → Inserted s u → Circuit (keyAt s) (rightAt s) (Inserted s) u
+  -- just one inserted node has a right link to each inserted node
+  pub predecessor : (u : ℕ) → Inserted s u → Predecessor (rightAt s) (Inserted s) u
+  -- and where no SetL to a node waits, its left link names that one
+  pub left : (u p : ℕ) → Inserted s u → noticeWaits s u ≡ false → Inserted s p → rightAt s p ≡ To u → leftAt s u ≡ To p
+
 -- ---- what holds after a list of calls
 pub record Sound (h : History) : Type 0 where
   pub well-formed : T (wellFormed (h .state))
   -- who is inserted by the calls and their outcomes is who is inserted by the definition under "Between"
   pub told : (u : ℕ) → h .told u ≡ inserted (h .state) u
-  -- from each inserted node the right links lead once through each inserted node, through no other, and home; the key rises at every
-  -- move but one; a lone node moves to itself
-  pub circuit : (u : ℕ) → Inserted (h .state) u → Circuit (keyAt (h .state)) (rightAt (h .state)) (Inserted (h .state)) u
-  -- just one inserted node has a right link to each
-  pub predecessor : (u : ℕ) → Inserted (h .state) u → Predecessor (rightAt (h .state)) (Inserted (h .state)) u
-  -- and where no SetL to a node waits, its left link names that one
-  pub left : (u p : ℕ) → Inserted (h .state) u → noticeWaits (h .state) u ≡ false
-      → Inserted (h .state) p → rightAt (h .state) p ≡ To u → leftAt (h .state) u ≡ To p
+  pub ring : Ringed (h .state)
   pub lively : Lively (h .state)
 
--- for every list of calls, of any arguments
+-- for every list of calls, of any arguments, refused ones included
 abbrev pub RingClaim : Type 0
 RingClaim = (calls : List Call) → Sound (history calls)

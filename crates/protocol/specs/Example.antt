@@ -1,8 +1,8 @@
--- Paper 01's example script as a list of calls, and the answers that the paper prints for it. `proofs/Example.antt` shows by computation
--- that the definitions give them. Definitions only.
+-- Paper 01's example script as a list of calls, and the answers that the paper prints for it; and a longer list, in which leaves are
+-- granted and a notice comes late. `proofs/Example.antt` shows by computation that the definitions give these answers. Definitions only.
 use mathlib.Core.List.{List, [], _∷_}
 use Rattle.refusal.specs.Rules.{Coded, done, no}
-use Rattle.node.specs.declared.Outcome.the-variants.{Created, Waiting, Granted, Denied, Joined, LeaveDenied, LeftSet}
+use Rattle.node.specs.declared.Outcome.the-variants.{Created, Waiting, Granted, Denied, Joined, Gone, LeaveDenied, LeftSet, Dropped}
 use Rattle.protocol.specs.declared.Call.{Call}
 use Rattle.protocol.specs.declared.Call.the-variants.{Declare, Create, Join, Leave, Deliver}
 use Rattle.protocol.specs.declared.Reply.{Reply}
@@ -45,4 +45,54 @@ printed =
     ∷ done (Stepped LeftSet)
     ∷ done (Stepped LeaveDenied)
     ∷ no 29
+    ∷ []
+
+-- three nodes; 2 joins between 0 and 1, whose notice of it stays under way while 2 and then 1 leave again; 1 may not join while that
+-- notice waits, and then joins with the left number that it has
+abbrev pub lateNotice : List Call
+lateNotice =
+    Declare 1_000
+    ∷ Declare 2_000
+    ∷ Declare 1_500
+    ∷ Create 0
+    ∷ Join 1 0 0
+    ∷ Deliver 0
+    ∷ Deliver 1
+    ∷ Join 2 0 1
+    ∷ Deliver 1
+    ∷ Deliver 2
+    ∷ Leave 2
+    ∷ Deliver 2
+    ∷ Deliver 2
+    ∷ Deliver 2
+    ∷ Leave 1
+    ∷ Deliver 2
+    ∷ Deliver 3
+    ∷ Join 1 0 0
+    ∷ Deliver 1
+    ∷ Join 1 0 0
+    ∷ []
+
+abbrev pub lateNoticeSaid : List (Coded Reply)
+lateNoticeSaid =
+    done (Declared 0 1_000)
+    ∷ done (Declared 1 2_000)
+    ∷ done (Declared 2 1_500)
+    ∷ done (Stepped Created)
+    ∷ done (Stepped Waiting)
+    ∷ done (Stepped Granted)
+    ∷ done (Stepped Joined)
+    ∷ done (Stepped Waiting)
+    ∷ done (Stepped Granted)
+    ∷ done (Stepped Joined)
+    ∷ done (Stepped Waiting)
+    ∷ done (Stepped Granted)
+    ∷ done (Stepped LeftSet)
+    ∷ done (Stepped Gone)
+    ∷ done (Stepped Waiting)
+    ∷ done (Stepped Granted)
+    ∷ done (Stepped Gone)
+    ∷ no 25
+    ∷ done (Stepped Dropped)
+    ∷ done (Stepped Waiting)
     ∷ []

@@ -1,5 +1,5 @@
 -- What comes of a list of calls from the empty network, refused calls included; and beside it which nodes are inserted as the calls
--- and their outcomes tell it (paper 01, "The list in demand 3"), without a look at any node or at what a message carries.
+-- and their outcomes tell it (paper 01, "The list in demand 3"), without a look at any node, or at a message but for whose it is.
 -- Definitions only.
 use Prim.Native.Nat.{ℕ}
 use mathlib.Core.Bool.{Bool, true, false, cond}

@@ -61,18 +61,21 @@ isAck (SetRAck number) = true
 isAck SetRNak = false
 isAck (SetL left number) = false
 
--- "answers SetRAck(number) and SetRNak"
-abbrev pub isAnswer : Kind → Bool
-isAnswer (SetR new expected number) = false
-isAnswer (SetRAck number) = true
-isAnswer SetRNak = true
-isAnswer (SetL left number) = false
+abbrev pub isNak : Kind → Bool
+isNak (SetR new expected number) = false
+isNak (SetRAck number) = false
+isNak SetRNak = true
+isNak (SetL left number) = false
 
 abbrev pub isNotice : Kind → Bool
 isNotice (SetR new expected number) = false
 isNotice (SetRAck number) = false
 isNotice SetRNak = false
 isNotice (SetL left number) = true
+
+-- "answers SetRAck(number) and SetRNak"
+abbrev pub isAnswer : Kind → Bool
+isAnswer kind = isAck kind || isNak kind
 
 abbrev pub isAckTo : ℕ → Message → Bool
 isAckTo u m = isAck (m .kind) && eqb (m .to) u
