@@ -27,16 +27,8 @@ pub is-true : (b : Bool) → T b → b ≡ true
 is-true true t = refl
 is-true false t = absurd t
 
-pub is-false : (b : Bool) → ¬ T b → b ≡ false
-is-false true n = absurd (n tt)
-is-false false n = refl
-
 pub not-both : {b : Bool} → b ≡ true → b ≡ false → ⊥
 not-both e f = true-is-not-false (rw f at e)
-
-pub neither : (p q : Bool) → (p || q) ≡ false → (p ≡ false) × (q ≡ false)
-neither true q h = absurd (not-both refl h)
-neither false q h = (refl, h)
 
 pub bit-true : {b : Bool} → b ≡ true → bit b ≡ 1
 bit-true e = rw e
