@@ -28,7 +28,7 @@ use Rattle.node.specs.declared.Peer.{Peer}
 use Rattle.node.specs.Shape.{isOut, isIn, isInOrDel, linked, linkFits, numbered, nodeFits, kindFits, messageFits, capacity, wellFormed, deliverable, peerFits}
 use Rattle.node.specs.declared.Outcome.{Outcome}
 use Rattle.node.specs.declared.Outcome.the-variants.{Waiting, LeftOld, Dropped}
-use Rattle.node.specs.Actions.{Effect, refused, quiet, posting, setL, withStatus, target, seqOf, linksTo, createRules, creating, createOf, joinRules, asking, joinOf, alone, leaveRules, leaveRequest, leaving, leaveOf, grants, notice, ack, relinked, granting, onSetR, admitted, onSetRAck, onSetRNak, leftSet, onSetL, onKind, actOf, receiveRules, receiveOf}
+use Rattle.node.specs.Actions.{Effect, refused, quiet, posting, setL, withStatus, target, seqOf, linksTo, createRules, created, creating, createOf, joinRules, joining, asking, joinOf, alone, leaveRules, leaveRequest, leaving, leaveOf, grants, notice, ack, relinked, granting, onSetR, admitted, onSetRAck, onSetRNak, leftSet, onSetL, onKind, actOf, receiveRules, receiveOf}
 use Rattle.node.proofs.ActionLaws.{Grant, granted}
 
 -- ---- the facts that the test of a node says
@@ -111,6 +111,12 @@ module _ {count : ℕ} {u : Node} (f : NodeFits count u) where
   both-linked : isOut (u .status) ≡ false → (linked (u .left) ≡ true) × (linked (u .right) ≡ true)
   both-linked e = both (linked (u .left)) (linked (u .right)) (not-left (isOut (u .status)) _ e (f .links))
 
+  pub created-fits : (me : ℕ) → ltb me count ≡ true → NodeFits count (created me u)
+  created-fits me h = record { key = f .key; left = h; right = h; links = refl; seq = refl }
+
+  pub joining-fits : (p q : Peer) → ltb (p .number) count ≡ true → ltb (q .number) count ≡ true → NodeFits count (joining u p q)
+  joining-fits p q hp hq = record { key = f .key; left = hp; right = hq; links = refl; seq = refl }
+
   pub out-fits : NodeFits count (withStatus Out u)
   out-fits = record { key = f .key; left = f .left; right = f .right; links = refl; seq = refl }
 
@@ -142,14 +148,14 @@ module _ (count me : ℕ) (me-in : ltb me count ≡ true) (u : Node) (f : NodeFi
   pub create-fits : EffectFits count (createOf me u)
   unfolding createOf
   create-fits = settled-fits f (first (createRules me u)) (creating me u) (λ clear. record {
-    node = record { key = f .key; left = me-in; right = me-in; links = refl; seq = refl };
+    node = created-fits f me me-in;
     posts = tt;
   })
 
   pub join-fits : (p q : Peer) → ltb (p .number) count ≡ true → ltb (q .number) count ≡ true → EffectFits count (joinOf me u p q)
   unfolding joinOf
   join-fits p q hp hq = settled-fits f (first (joinRules me u p q)) (asking me u p q) (λ clear. record {
-    node = record { key = f .key; left = hp; right = hq; links = refl; seq = refl };
+    node = joining-fits f p q hp hq;
     posts = (message-fits count _ me-in hp (simp (me-in, hq)), tt);
   })
 

@@ -7,7 +7,6 @@ use mathlib.Core.List.{List}
 use Prim.Native.Nat.{ℕ}
 use native.Mathlib.Decide.{ℕ-discrete}
 use borrow.Author.Tests.{eq-eqb, ne-eqb}
-use Rattle.truth.specs.Tests.{any}
 use Rattle.truth.proofs.TestLaws.{_∈_, not-both, any-in}
 use Rattle.node.specs.declared.Status.{Status}
 use Rattle.node.specs.declared.Status.the-variants.{Out, Ins, In, Del}
@@ -16,10 +15,11 @@ use Rattle.node.specs.declared.Node.{Node}
 use Rattle.node.specs.declared.Message.{Message}
 use Rattle.node.specs.Actions.{setR, setRAck, setRNak, setL, withStatus, admitted}
 use Rattle.protocol.specs.State.{isAckTo, isDealingOf, isNotice, isInserted}
+use Rattle.protocol.proofs.Nodes.{At, unchanged}
 use Rattle.protocol.proofs.Waiting.{Taken, Dealt, apart, request-deals, ack-deals, nak-deals, only-dealing, no-ack, acks-left}
 use Rattle.protocol.proofs.Fields.{statusOf, keyOf, leftOf, rightOf, lseqOf, rseqOf}
 use Rattle.protocol.proofs.Invariant.{isMember, Member, Keeps, stored, coming, Invariant}
-use Rattle.protocol.proofs.Frames.{At, Settled, settled-in, settled-out, ins-not-del, unchanged, member-same, request-same, keeps-same, left-same, same-order}
+use Rattle.protocol.proofs.Frames.{Settled, settled-in, settled-out, ins-not-del, member-same, request-same, keeps-same, left-same, same-order}
 
 -- m is an answer to i, which then stands as x, settled, with the links and the left number it had
 module _ {N N′ : ℕ → Node} {M rest : List Message} {told joins : ℕ → Bool} {m : Message} {i : ℕ} {x : Node}
@@ -75,19 +75,20 @@ module _ {N N′ : ℕ → Node} {M rest : List Message} {told joins : ℕ → B
 ack-elsewhere : (p i n u : ℕ) → u ≢ i → isAckTo u (setRAck p i n) ≡ false
 ack-elsewhere p i n u d = ne-eqb i u (λ e. d (sym e))
 
+-- who is inserted while the answer waits: a SetRAck is there, or none is
+acked-before : (N : ℕ → Node) {M rest : List Message} {p i n : ℕ} {s : Status} → Taken M (setRAck p i n) rest → N i .status ≡ s → isMember N M i ≡ isInserted s true
+acked-before N {i = i} t st = member-same st (any-in (isAckTo i) (t .waits) (eq-eqb i i refl))
+
+denied-before : {N : ℕ → Node} {M rest : List Message} {p i : ℕ} {s : Status} → Dealt N M → Taken M (setRNak p i) rest → N i .status ≡ s → isMember N M i ≡ isInserted s false
+denied-before {p} {i} dealt t st = member-same st (no-ack dealt i t (nak-deals p i) refl)
+
 module _ {N N′ : ℕ → Node} {M rest : List Message} {told joins : ℕ → Bool} {p i : ℕ} (dealt : Dealt N M) (inv : Invariant N M told joins) where
   -- "SetRAck at ins: in, right number := its number": it was inserted from the grant on, with that number
   pub joins-kept : (n : ℕ) → Taken M (setRAck p i n) rest → N i .status ≡ Ins → At N i (admitted (N i) n) N′ → Invariant N′ rest told joins
   joins-kept n t ins at =
       answered dealt inv t at (ack-deals p i n) refl (ack-elsewhere p i n) settled-in refl refl refl refl
-      (now ∙ sym before) keep
+      (member-same (ap statusOf (at .self)) refl ∙ sym (acked-before N t ins)) keep
     where
-      now : isMember N′ rest i ≡ true
-      now = ap (λ (y : Node). isInserted (y .status) (any (isAckTo i) rest)) (at .self)
-
-      before : isMember N M i ≡ true
-      before = member-same ins (any-in (isAckTo i) (t .waits) (eq-eqb i i refl))
-
       keep : (R : ℕ) → Member N M i → Keeps N′ rest i R → Keeps N M i R
       keep R _ (stored f e) =
           let same : Is n ≡ Is R = sym (ap rseqOf (at .self)) ∙ e in
@@ -99,38 +100,20 @@ module _ {N N′ : ℕ → Node} {M rest : List Message} {told joins : ℕ → B
   pub goes-kept : (n : ℕ) → Taken M (setRAck p i n) rest → N i .status ≡ Del → At N i (withStatus Out (N i)) N′ → Invariant N′ rest told joins
   goes-kept n t del at =
       answered dealt inv t at (ack-deals p i n) refl (ack-elsewhere p i n) settled-out refl refl refl refl
-      (now ∙ sym before) (λ R m _. absurd (not-both m before))
-    where
-      now : isMember N′ rest i ≡ false
-      now = ap (λ (y : Node). isInserted (y .status) (any (isAckTo i) rest)) (at .self)
-
-      before : isMember N M i ≡ false
-      before = member-same del (any-in (isAckTo i) (t .waits) (eq-eqb i i refl))
+      (member-same (ap statusOf (at .self)) refl ∙ sym (acked-before N t del)) (λ R m _. absurd (not-both m (acked-before N t del)))
 
   -- "SetRNak at ins: out"
   pub stays-out-kept : Taken M (setRNak p i) rest → N i .status ≡ Ins → At N i (withStatus Out (N i)) N′ → Invariant N′ rest told joins
   stays-out-kept t ins at =
       answered dealt inv t at (nak-deals p i) refl (λ u d. refl) settled-out refl refl refl refl
-      (now ∙ sym before) (λ R m _. absurd (not-both m before))
-    where
-      now : isMember N′ rest i ≡ false
-      now = ap (λ (y : Node). isInserted (y .status) (any (isAckTo i) rest)) (at .self)
-
-      before : isMember N M i ≡ false
-      before = member-same ins (no-ack dealt i t (nak-deals p i) refl)
+      (member-same (ap statusOf (at .self)) refl ∙ sym (denied-before dealt t ins)) (λ R m _. absurd (not-both m (denied-before dealt t ins)))
 
   -- "At del: in"
   pub stays-in-kept : Taken M (setRNak p i) rest → N i .status ≡ Del → At N i (withStatus In (N i)) N′ → Invariant N′ rest told joins
   stays-in-kept t del at =
       answered dealt inv t at (nak-deals p i) refl (λ u d. refl) settled-in refl refl refl refl
-      (now ∙ sym before) keep
+      (member-same (ap statusOf (at .self)) refl ∙ sym (denied-before dealt t del)) keep
     where
-      now : isMember N′ rest i ≡ true
-      now = ap (λ (y : Node). isInserted (y .status) (any (isAckTo i) rest)) (at .self)
-
-      before : isMember N M i ≡ true
-      before = member-same del (no-ack dealt i t (nak-deals p i) refl)
-
       keep : (R : ℕ) → Member N M i → Keeps N′ rest i R → Keeps N M i R
       keep R _ (stored f e) = stored (λ h. ins-not-del (sym h ∙ del)) (sym (ap rseqOf (at .self)) ∙ e)
       keep R _ (coming h w j) = absurd (settled-in .0 (sym (ap statusOf (at .self)) ∙ h))

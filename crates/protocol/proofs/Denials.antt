@@ -14,10 +14,11 @@ use Rattle.node.specs.declared.Node.{Node}
 use Rattle.node.specs.declared.Message.{Message}
 use Rattle.node.specs.Actions.{setR, setRNak, setL}
 use Rattle.protocol.specs.State.{isAck, isNak, isAckTo, isNotice, dealings}
+use Rattle.protocol.proofs.Nodes.{At, unchanged}
 use Rattle.protocol.proofs.Waiting.{Taken, Dealt, apart, in-one, same-any, ack-dealing, no-dealing, acks-left}
 use Rattle.protocol.proofs.Fields.{statusOf, keyOf, leftOf, rightOf, lseqOf, rseqOf, toOf}
 use Rattle.protocol.proofs.Invariant.{isMember, Invariant}
-use Rattle.protocol.proofs.Frames.{At, unchanged, member-same, member-not-out, request-same, keeps-same, left-same, same-order}
+use Rattle.protocol.proofs.Frames.{member-same, member-not-out, request-same, keeps-same, left-same, same-order}
 
 -- no node changes; but for denials nothing comes, no acknowledgement goes, and no notice to a node that is not out
 pub unmoved : {N N′ : ℕ → Node} {M M′ : List Message} {told joins : ℕ → Bool} → Invariant N M told joins → ((u : ℕ) → N′ u ≡ N u)

@@ -15,44 +15,26 @@ use Rattle.protocol.specs.Calls.{applyOf}
 use Rattle.protocol.specs.History.{history}
 use Rattle.protocol.specs.Example.{answers, script, printed, lateNotice, lateNoticeSaid}
 
-pub as-printed : answers empty script ≡ printed
-unfolding applyOf wellFormed between firstSeq lastSeq nextSeq newer hasNext cappedNext nodeFits messageFits nodeIsSound deliverable peerFits createOf joinOf leaveOf grants receiveOf
-as-printed = refl
+-- ---- paper 01's script; node 2 was never declared
+pub record AfterScript : Type 0 where
+  pub said : answers empty script ≡ printed
+  pub told : history script .told 0 ∷ history script .told 1 ∷ history script .told 2 ∷ [] ≡ true ∷ true ∷ false ∷ []
+  pub are-inserted : inserted (history script .state) 0 ∷ inserted (history script .state) 1 ∷ inserted (history script .state) 2 ∷ [] ≡ true ∷ true ∷ false ∷ []
+  pub left : leftAt (history script .state) 0 ∷ leftAt (history script .state) 1 ∷ [] ≡ To 1 ∷ To 0 ∷ []
+  pub round : walk (rightAt (history script .state)) 0 3 ≡ 0 ∷ 1 ∷ 0 ∷ []
+  pub one-fall : falls (keyAt (history script .state)) (rightAt (history script .state)) (0 ∷ 1 ∷ []) ≡ 1
+  pub nothing-waits : history script .state .messages ≡ []
 
--- nodes 0, 1 and 2, of which the last was never declared
-pub who-is-told : history script .told 0 ∷ history script .told 1 ∷ history script .told 2 ∷ [] ≡ true ∷ true ∷ false ∷ []
-unfolding applyOf wellFormed between firstSeq lastSeq nextSeq newer hasNext cappedNext nodeFits messageFits nodeIsSound deliverable peerFits createOf joinOf leaveOf grants receiveOf
-who-is-told = refl
-
-pub who-is-inserted : inserted (history script .state) 0 ∷ inserted (history script .state) 1 ∷ inserted (history script .state) 2 ∷ [] ≡ true ∷ true ∷ false ∷ []
+pub after-script : AfterScript
 unfolding applyOf wellFormed inserted between firstSeq lastSeq nextSeq newer hasNext cappedNext nodeFits messageFits nodeIsSound deliverable peerFits createOf joinOf leaveOf grants receiveOf
-who-is-inserted = refl
+after-script = record { said = refl; told = refl; are-inserted = refl; left = refl; round = refl; one-fall = refl; nothing-waits = refl }
 
-pub left-links : leftAt (history script .state) 0 ∷ leftAt (history script .state) 1 ∷ [] ≡ To 1 ∷ To 0 ∷ []
-unfolding applyOf wellFormed between firstSeq lastSeq nextSeq newer hasNext cappedNext nodeFits messageFits nodeIsSound deliverable peerFits createOf joinOf leaveOf grants receiveOf
-left-links = refl
+-- ---- the longer list; the second join of 1 carries its left number, 2
+pub record AfterLateNotice : Type 0 where
+  pub said : answers empty lateNotice ≡ lateNoticeSaid
+  pub told : history lateNotice .told 0 ∷ history lateNotice .told 1 ∷ history lateNotice .told 2 ∷ [] ≡ true ∷ false ∷ false ∷ []
+  pub second-join : history lateNotice .state .messages ≡ setL 0 0 1 1 ∷ setL 0 0 0 2 ∷ setR 1 0 1 0 2 ∷ []
 
-pub round : walk (rightAt (history script .state)) 0 3 ≡ 0 ∷ 1 ∷ 0 ∷ []
-unfolding applyOf wellFormed between firstSeq lastSeq nextSeq newer hasNext cappedNext nodeFits messageFits nodeIsSound deliverable peerFits createOf joinOf leaveOf grants receiveOf
-round = refl
-
-pub one-fall : falls (keyAt (history script .state)) (rightAt (history script .state)) (0 ∷ 1 ∷ []) ≡ 1
-unfolding applyOf wellFormed between firstSeq lastSeq nextSeq newer hasNext cappedNext nodeFits messageFits nodeIsSound deliverable peerFits createOf joinOf leaveOf grants receiveOf
-one-fall = refl
-
-pub nothing-waits : history script .state .messages ≡ []
-unfolding applyOf wellFormed between firstSeq lastSeq nextSeq newer hasNext cappedNext nodeFits messageFits nodeIsSound deliverable peerFits createOf joinOf leaveOf grants receiveOf
-nothing-waits = refl
-
--- the longer list: the second join of 1 carries its left number, 2, and of the three only 0 is told inserted
-pub late-as-said : answers empty lateNotice ≡ lateNoticeSaid
-unfolding applyOf wellFormed between firstSeq lastSeq nextSeq newer hasNext cappedNext nodeFits messageFits nodeIsSound deliverable peerFits createOf joinOf leaveOf grants receiveOf
-late-as-said = refl
-
-pub second-join : history lateNotice .state .messages ≡ setL 0 0 1 1 ∷ setL 0 0 0 2 ∷ setR 1 0 1 0 2 ∷ []
-unfolding applyOf wellFormed between firstSeq lastSeq nextSeq newer hasNext cappedNext nodeFits messageFits nodeIsSound deliverable peerFits createOf joinOf leaveOf grants receiveOf
-second-join = refl
-
-pub only-0-is-told : history lateNotice .told 0 ∷ history lateNotice .told 1 ∷ history lateNotice .told 2 ∷ [] ≡ true ∷ false ∷ false ∷ []
-unfolding applyOf wellFormed between firstSeq lastSeq nextSeq newer hasNext cappedNext nodeFits messageFits nodeIsSound deliverable peerFits createOf joinOf leaveOf grants receiveOf
-only-0-is-told = refl
+pub after-late-notice : AfterLateNotice
+unfolding applyOf wellFormed inserted between firstSeq lastSeq nextSeq newer hasNext cappedNext nodeFits messageFits nodeIsSound deliverable peerFits createOf joinOf leaveOf grants receiveOf
+after-late-notice = record { said = refl; told = refl; second-join = refl }

@@ -1,4 +1,4 @@
--- Well-formedness as facts, beside the test that says it; and what it is that a message is taken from those that wait. Assumes nothing.
+-- Well-formedness as facts that proofs can use, and that these facts say what the test says. Assumes nothing.
 use mathlib.Core.Path.{_≡_, ap}
 use mathlib.Core.Logic.{_≢_}
 use mathlib.Core.Bool.{true, not, _&&_}

@@ -6,7 +6,6 @@ use mathlib.Core.Bool.{Bool}
 use mathlib.Core.List.{List}
 use Prim.Native.Nat.{ℕ}
 use native.Mathlib.Omega.{arith}
-use native.Mathlib.Decide.{ℕ-discrete}
 use Rattle.truth.specs.Tests.{any}
 use Rattle.truth.proofs.TestLaws.{_∈_, not-both}
 use Rattle.links.proofs.Circuit.{ring-kept, next-in}
@@ -32,19 +31,6 @@ settled-out = (λ e. let z : _≡_ {A = ℕ} 0 1 = cc in omega arith, λ e. let 
 
 pub ins-not-del : Ins ≢ Del
 ins-not-del e = let z : _≡_ {A = ℕ} 0 1 = cc in omega arith
-
--- ---- node i stands as x, all others as they were
-pub record At (N : ℕ → Node) (i : ℕ) (x : Node) (N′ : ℕ → Node) : Type 0 where
-  pub self : N′ i ≡ x
-  pub others : (u : ℕ) → u ≢ i → N′ u ≡ N u
-
--- what x has as node i had it, every node has as it had it
-pub unchanged : {N N′ : ℕ → Node} {i : ℕ} {x : Node} {B : Type 0} → At N i x N′ → (f : Node → B) → f x ≡ f (N i) → (u : ℕ) → f (N′ u) ≡ f (N u)
-unchanged {N} {N′} {i} at f e u = go (ℕ-discrete u i)
-  where
-    go : Dec (u ≡ i) → f (N′ u) ≡ f (N u)
-    go (yes d) = rw d (ap f (at .self) ∙ e)
-    go (no d) = ap f (at .others u d)
 
 -- ---- parts of the invariant
 pub member-same : {s s′ : Status} {b b′ : Bool} → s′ ≡ s → b′ ≡ b → isInserted s′ b′ ≡ isInserted s b

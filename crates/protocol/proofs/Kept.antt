@@ -3,7 +3,7 @@
 -- the rest. Assumes nothing.
 use mathlib.Core.Path.{_≡_, refl, sym, ap}
 use mathlib.Core.Logic.{_≢_}
-use mathlib.Core.Bool.{Bool, true, false, not, _||_}
+use mathlib.Core.Bool.{true, not}
 use mathlib.Core.List.{List, [], _∷_, _++_}
 use Prim.Native.Nat.{ℕ, _+_, _≤_, _<_}
 use native.Mathlib.Omega.{arith}
@@ -11,7 +11,7 @@ use lib.ListN.{length, length-append}
 use lib.Dec.{ltb, eqb}
 use borrow.Author.Tests.{lt-ltb, eq-eqb, ne-eqb}
 use Rattle.truth.specs.Tests.{bit, count}
-use Rattle.truth.proofs.Laws.{both, not-left}
+use Rattle.truth.proofs.Laws.{or-false, both, not-left}
 use Rattle.truth.proofs.TestLaws.{bit-true, bit-false, count-append}
 use Rattle.sequence.specs.Sequence.{nextSeq, cappedNext}
 use Rattle.node.specs.declared.Status.the-variants.{Out, In, Del}
@@ -19,7 +19,7 @@ use Rattle.node.specs.declared.Node.{Node}
 use Rattle.node.specs.declared.Message.{Message}
 use Rattle.node.specs.Shape.{isOut, isInOrDel, numbered, messageFits}
 use Rattle.node.specs.Actions.{setR, setRAck, setRNak, setL, withStatus, created, joining, relinked}
-use Rattle.node.proofs.FitLaws.{NodeFits, MessageFits, message-facts, PostsFit, message-fits, out-fits, status-fits, admitted-fits, relinked-fits, left-set-fits}
+use Rattle.node.proofs.FitLaws.{NodeFits, MessageFits, message-facts, PostsFit, message-fits, created-fits, joining-fits, out-fits, status-fits, admitted-fits, relinked-fits, left-set-fits}
 use Rattle.protocol.specs.declared.Call.{Call}
 use Rattle.protocol.specs.State.{State, queueLimit, nodeAt, statusAt, keyAt, isDealingOf, dealings}
 use Rattle.protocol.specs.Calls.{Result, peerAt}
@@ -31,10 +31,6 @@ use Rattle.protocol.proofs.Changes.{Accepted, declares, creates, asks, 
 use Rattle.protocol.proofs.Moves.{AllFit, with-posts, Moves, moved-kept, declare-kept}
 
 -- ---- whose dealing a message is: a request is its sender's; that an answer is the addressee's computes
-or-false : (b : Bool) → (b || false) ≡ b
-or-false true = refl
-or-false false = refl
-
 request-of : (u v p new e n : ℕ) → bit (isDealingOf u (setR v p new e n)) ≡ bit (eqb v u)
 request-of u v p new e n = ap bit (or-false (eqb v u))
 
@@ -76,14 +72,14 @@ module _ {s : State} (w : WellFormed s) where
   create-kept : {u : ℕ} → Creates s u → Moves s u (created u (nodeAt s u)) (s .messages)
   create-kept {u} h =
       let u-in = lt-ltb u (length (s .nodes)) (h .declared) in
-      keeps-messages (h .declared) (ap dealings (h .all-out u (h .declared))) refl (record { key = w .node u (h .declared) .key; left = u-in; right = u-in; links = refl; seq = refl })
+      keeps-messages (h .declared) (ap dealings (h .all-out u (h .declared))) refl (created-fits (w .node u (h .declared)) u u-in)
 
   join-kept : {u p q : ℕ} → Joins s u p q → Moves s u (joining (nodeAt s u) (peerAt s p) (peerAt s q)) (s .messages ++ setR u p u q (nodeAt s u .lseq) ∷ [])
   join-kept {u} {p} {q} h =
       let u-in = lt-ltb u (length (s .nodes)) (h .declared) in
       let p-in = lt-ltb p (length (s .nodes)) (h .left-declared) in
       let q-in = lt-ltb q (length (s .nodes)) (h .right-declared) in
-      adds-request (h .declared) (ap dealings (h .is-out)) refl (record { key = w .node u (h .declared) .key; left = p-in; right = q-in; links = refl; seq = refl })
+      adds-request (h .declared) (ap dealings (h .is-out)) refl (joining-fits (w .node u (h .declared)) (peerAt s p) (peerAt s q) p-in q-in)
       p u q (nodeAt s u .lseq) refl (h .room) (message-fits (length (s .nodes)) (setR u p u q (nodeAt s u .lseq)) u-in p-in (simp (u-in, q-in)))
 
   leave-alone-kept : {u : ℕ} → LeavesAlone s u → Moves s u (withStatus Out (nodeAt s u)) (s .messages)

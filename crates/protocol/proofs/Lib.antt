@@ -1,4 +1,5 @@
 pub mod Fields
+pub mod Nodes
 pub mod Facts
 pub mod Waiting
 pub mod Changes
@@ -7,6 +8,7 @@ pub mod Refusals
 pub mod Moves
 pub mod Kept
 pub mod Lively
+pub mod Numbers
 pub mod Invariant
 pub mod Frames
 pub mod Answers

@@ -15,8 +15,6 @@ use Rattle.truth.specs.Tests.{bit, count}
 use Rattle.truth.proofs.Laws.{true-is-not-false}
 use Rattle.truth.proofs.TestLaws.{decided, holds, is-true, count-append}
 use Rattle.sequence.specs.Sequence.{nextSeq, cappedNext}
-use Rattle.node.specs.declared.Status.{Status}
-use Rattle.node.specs.declared.Status.the-variants.{Out, Ins, In, Del}
 use Rattle.node.specs.declared.Node.{Node}
 use Rattle.node.specs.declared.Kind.{Kind}
 use Rattle.node.specs.declared.Kind.the-variants.{SetR, SetRAck, SetRNak, SetL}
@@ -25,11 +23,11 @@ use Rattle.node.specs.Actions.{setR, setRAck, setRNak, setL}
 use Rattle.node.proofs.FitLaws.{message-facts}
 use Rattle.protocol.specs.declared.Call.{Call}
 use Rattle.protocol.specs.declared.Call.the-variants.{Deliver}
-use Rattle.protocol.specs.State.{State, queueLimit, nodeAt, statusAt, isRequest, isDealingOf, dealings, wellFormed}
+use Rattle.protocol.specs.State.{State, queueLimit, nodeAt, statusAt, isRequest, isDealingOf, wellFormed}
 use Rattle.protocol.specs.Calls.{Result, isFull, messageAt, wouldGrant, isGrantable, applyOf}
 use Rattle.protocol.specs.History.{accepted}
 use Rattle.protocol.specs.Claim.{Delivers, delivered, load, Lively, SteadyClaim}
-use Rattle.protocol.proofs.Waiting.{Taken, taken}
+use Rattle.protocol.proofs.Waiting.{dealings-most, Taken, taken}
 use Rattle.protocol.proofs.Facts.{WellFormed, formed, tested}
 use Rattle.protocol.proofs.Changes.{Act, drops, lets-in, lets-go, denies, joins, goes, stays-out, stays-in, takes, ignores}
 use Rattle.protocol.proofs.Changes.{Accepted, declares, creates, asks, goes-alone, leaves, delivers, Change, refuses, accepts}
@@ -131,17 +129,11 @@ requests-are-dealings n (m ∷ ms) f =
       requests-are-dealings n ms (λ x i. f x (there i)),
     )
 
-one-dealing : (status : Status) → dealings status ≤ 1
-one-dealing Out = omega arith
-one-dealing Ins = omega arith
-one-dealing In = omega arith
-one-dealing Del = omega arith
-
 few-requests : {s : State} → WellFormed s → count (λ m. isRequest (m .kind)) (s .messages) ≤ length (s .nodes)
 few-requests {s} w = omega (
   arith,
   requests-are-dealings (length (s .nodes)) (s .messages) (w .message),
-  total-most (λ u. count (isDealingOf u) (s .messages)) (length (s .nodes)) (λ u k. omega (arith, w .dealing u k, one-dealing (statusAt s u))),
+  total-most (λ u. count (isDealingOf u) (s .messages)) (length (s .nodes)) (λ u k. omega (arith, w .dealing u k, dealings-most (statusAt s u))),
 )
 
 -- ---- so of a full queue some message is not a request

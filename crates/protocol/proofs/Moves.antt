@@ -3,15 +3,15 @@
 -- here, for the calls in `Kept`. Assumes nothing.
 use mathlib.Core.Path.{_≡_, refl, sym, ap, _∙_}
 use mathlib.Core.Logic.{⊎-elim, _≢_}
-use mathlib.Core.Bool.{Bool, true, false, _&&_}
+use mathlib.Core.Bool.{true, false}
 use mathlib.Core.List.{List, [], _∷_, _++_, List·Memᴰ·head as here, List·Memᴰ·tail as there, List·Memᴰ·not-nil as in-nil, List·Memᴰ·append-cases as in-part, List·Memᴰ·cases-cons as in-cons}
 use Prim.Native.Nat.{ℕ, suc, _≤_, _<_}
 use native.Mathlib.Omega.{arith}
 use native.Mathlib.Decide.{ℕ-discrete}
-use lib.ListN.{length, set, length-append, length-set, List·getD-append}
-use lib.Seq.{getD-append-seam, getD-set-same, getD-set-other}
+use lib.ListN.{length, set, length-append, length-set}
 use borrow.Author.Tests.{ltb-true, ne-eqb}
 use Rattle.truth.specs.Tests.{count}
+use Rattle.truth.proofs.Laws.{and-false}
 use Rattle.truth.proofs.TestLaws.{_∈_, bit-false}
 use Rattle.node.specs.declared.Node.{Node}
 use Rattle.node.specs.declared.Message.{Message}
@@ -19,6 +19,7 @@ use Rattle.node.specs.Shape.{declaredOf, messageFits}
 use Rattle.node.proofs.FitLaws.{NodeFits, message-facts, PostsFit, fits-more, message-fits-more}
 use Rattle.protocol.specs.State.{State, queueLimit, nodeAt, statusAt, keyAt, isDealingOf, dealings}
 use Rattle.protocol.specs.Calls.{declaring}
+use Rattle.protocol.proofs.Nodes.{At, unchanged, set-at, declared-at}
 use Rattle.protocol.proofs.Fields.{keyOf}
 use Rattle.protocol.proofs.Facts.{WellFormed}
 use Rattle.protocol.proofs.Changes.{Declares}
@@ -49,7 +50,7 @@ moved-kept {s} {i} {x} {ms} w h = record {
   few-nodes = rw size (w .few-nodes);
   few-messages = h .few;
   node = λ u k. rw size (node u (ℕ-discrete u i) (rw size at k));
-  keys = λ u v k j e. w .keys u v (rw size at k) j (sym (key v (ℕ-discrete v i)) ∙ e ∙ key u (ℕ-discrete u i));
+  keys = λ u v k j e. w .keys u v (rw size at k) j (sym (key v) ∙ e ∙ key u);
   dealing = λ u k. dealing u (ℕ-discrete u i) (rw size at k);
   message = λ m j. rw size (h .messages m j);
 }
@@ -60,29 +61,21 @@ moved-kept {s} {i} {x} {ms} w h = record {
     size : length (set (s .nodes) i x) ≡ length (s .nodes)
     size = length-set (s .nodes) i x
 
-    same : nodeAt after i ≡ x
-    same = getD-set-same (s .nodes) i x (declaredOf 0) (h .declared)
-
-    other : (u : ℕ) → u ≢ i → nodeAt after u ≡ nodeAt s u
-    other u d = getD-set-other (s .nodes) i u x (declaredOf 0) d
+    at : At (nodeAt s) i x (nodeAt after)
+    at = set-at (s .nodes) (h .declared)
 
     node : (u : ℕ) → Dec (u ≡ i) → u < length (s .nodes) → NodeFits (length (s .nodes)) (nodeAt after u)
-    node u (yes e) k = rw (e, same) (h .fits)
-    node u (no d) k = rw (other u d) (w .node u k)
+    node u (yes e) k = rw (e, at .self) (h .fits)
+    node u (no d) k = rw (at .others u d) (w .node u k)
 
-    key : (u : ℕ) → Dec (u ≡ i) → keyAt after u ≡ keyAt s u
-    key u (yes e) = rw e (ap keyOf same ∙ h .key)
-    key u (no d) = ap keyOf (other u d)
+    key : (u : ℕ) → keyAt after u ≡ keyAt s u
+    key = unchanged at keyOf (h .key)
 
     dealing : (u : ℕ) → Dec (u ≡ i) → u < length (s .nodes) → count (isDealingOf u) ms ≤ dealings (statusAt after u)
-    dealing u (yes e) k = rw e (omega (arith, h .dealing, ap (λ (n : Node). dealings (n .status)) same))
-    dealing u (no d) k = omega (arith, h .others u d, w .dealing u k, ap (λ (n : Node). dealings (n .status)) (other u d))
+    dealing u (yes e) k = rw e (omega (arith, h .dealing, ap (λ (n : Node). dealings (n .status)) (at .self)))
+    dealing u (no d) k = omega (arith, h .others u d, w .dealing u k, ap (λ (n : Node). dealings (n .status)) (at .others u d))
 
 -- ---- a number that is not declared: no message concerns it
-and-false : (b : Bool) → (b && false) ≡ false
-and-false true = refl
-and-false false = refl
-
 pub unconcerned : (n u : ℕ) → n ≤ u → (ms : List Message) → AllFit n ms → count (isDealingOf u) ms ≡ 0
 unconcerned n u le [] f = refl
 unconcerned n u le (m ∷ ms) f =
@@ -93,7 +86,6 @@ unconcerned n u le (m ∷ ms) f =
     omega (arith, bit-false not-its, unconcerned n u le ms (λ x i. f x (there i)))
 
 -- ---- a node is declared
-
 pub declare-kept : {s : State} {key : ℕ} → WellFormed s → Declares s key → WellFormed (record { nodes = s .nodes ++ (declaredOf key ∷ []); messages = s .messages })
 declare-kept {s} {key} w h = record {
   few-nodes = rw size (h .room);
@@ -114,10 +106,10 @@ declare-kept {s} {key} w h = record {
     more = omega arith
 
     new : nodeAt after (length (s .nodes)) ≡ declaredOf key
-    new = getD-append-seam (s .nodes) (declaredOf key) [] (declaredOf 0)
+    new = declared-at s key .self
 
     old : (u : ℕ) → u < length (s .nodes) → nodeAt after u ≡ nodeAt s u
-    old u k = List·getD-append (s .nodes) (declaredOf key ∷ []) (declaredOf 0) u k
+    old u k = declared-at s key .others u (omega arith)
 
     node : (u : ℕ) → u < suc (length (s .nodes)) → Dec (u ≡ length (s .nodes)) → NodeFits (suc (length (s .nodes))) (nodeAt after u)
     node u k (yes e) = rw (e, new) (record { key = h .in-range; left = refl; right = refl; links = refl; seq = refl })

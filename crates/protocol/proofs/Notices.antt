@@ -16,10 +16,11 @@ use Rattle.node.specs.declared.Kind.the-variants.{SetL}
 use Rattle.node.specs.declared.Node.{Node}
 use Rattle.node.specs.declared.Message.{Message}
 use Rattle.node.specs.Actions.{setR, setL, leftSet}
+use Rattle.protocol.proofs.Nodes.{At, unchanged}
 use Rattle.protocol.proofs.Waiting.{Taken, taken-out, Dealt, request-deals, no-ack, acks-left}
 use Rattle.protocol.proofs.Fields.{statusOf, keyOf, leftOf, rightOf, lseqOf, rseqOf, kindOf, toOf}
 use Rattle.protocol.proofs.Invariant.{isMember, Request, LeftLink, Invariant}
-use Rattle.protocol.proofs.Frames.{At, unchanged, member-same, request-same, keeps-same, left-same, same-order}
+use Rattle.protocol.proofs.Frames.{member-same, request-same, keeps-same, left-same, same-order}
 
 same-number : {w u a n p i b k : ℕ} → setL w u a n ≡ setL p i b k → n ≡ k
 same-number {a} {n} {b} {k} e = let f : SetL a n ≡ SetL b k = ap kindOf e in cc

@@ -1,5 +1,5 @@
--- The invariant holds after a declaration, a creation, a join and a leave. A join or leave that posts a request leaves everyone
--- inserted who was; a creation makes a ring of one, and a node that goes out alone was a ring of one. Assumes nothing.
+-- The invariant holds after a declaration, and after a join or a leave that posts a request: whoever was inserted still is, and the
+-- request says what its sender's links and numbers say. Assumes nothing.
 use mathlib.Core.Path.{_≡_, refl, sym, ap, _∙_}
 use mathlib.Core.Logic.{_⊎_, ⊎-elim, _≢_}
 use mathlib.Core.Bool.{Bool, true, false}
@@ -22,10 +22,11 @@ use Rattle.node.specs.declared.Peer.{Peer}
 use Rattle.node.specs.Shape.{declaredOf}
 use Rattle.node.specs.Actions.{setR, setRAck, setL, withStatus, joining}
 use Rattle.protocol.specs.State.{isAckTo, isNotice, isNoticeTo, isAck, dealings, isInserted}
+use Rattle.protocol.proofs.Nodes.{At, unchanged}
 use Rattle.protocol.proofs.Waiting.{Dealt, apart, in-one as in-posted, same-any, request-deals, not-ack, no-dealing}
 use Rattle.protocol.proofs.Fields.{statusOf, keyOf, leftOf, rightOf, lseqOf, rseqOf, kindOf, toOf, senderOf}
 use Rattle.protocol.proofs.Invariant.{isMember, Member, Request, Keeps, stored, coming, Invariant}
-use Rattle.protocol.proofs.Frames.{At, settled-in, ins-not-del, unchanged, member-same, member-not-out, request-same, keeps-same, left-same, same-order}
+use Rattle.protocol.proofs.Frames.{settled-in, ins-not-del, member-same, member-not-out, request-same, keeps-same, left-same, same-order}
 
 -- ---- declare
 -- a node more, that is out as its place was; every request that waits is from, to and about others
@@ -146,12 +147,12 @@ asked {N} {N′} {M} {joins = joins} {joins′} {i} {p} {new} {e} {n} {x} dealt 
     at-member f same u m (yes d) = rw d (ap f (a .at .self) ∙ same (rw d at m))
     at-member f same u m (no d) = ap f (a .at .others u d)
 
+    ack-before : (u R w : ℕ) → setRAck w u R ∈ (M ++ setR i p new e n ∷ []) → setRAck w u R ∈ M
+    ack-before u R w j = ⊎-elim (λ h. h) (λ z. absurd (apart (λ y. isAck (y .kind)) refl refl z)) (in-posted M j)
+
     keeps : (v R : ℕ) → Member N M v → Keeps N′ (M ++ setR i p new e n ∷ []) v R → Dec (v ≡ i) → Keeps N M v R
-    keeps v R m k (yes d) = rw d (a .keeps R (rw d at m) (keeps-same refl refl (posted-before i) (rw d at k)))
-      where
-        posted-before : (u w : ℕ) → setRAck w u R ∈ (M ++ setR i p new e n ∷ []) → setRAck w u R ∈ M
-        posted-before u w j = ⊎-elim (λ h. h) (λ z. absurd (apart (λ y. isAck (y .kind)) refl refl z)) (in-posted M j)
-    keeps v R m k (no d) = keeps-same (status v d) (ap rseqOf (a .at .others v d)) (λ w j. ⊎-elim (λ h. h) (λ z. absurd (apart (λ y. isAck (y .kind)) refl refl z)) (in-posted M j)) k
+    keeps v R m k (yes d) = rw d (a .keeps R (rw d at m) (keeps-same refl refl (ack-before i R) (rw d at k)))
+    keeps v R m k (no d) = keeps-same (status v d) (ap rseqOf (a .at .others v d)) (ack-before v R) k
 
 -- a node that is idle has no acknowledgement waiting
 idle-no-ack : {N : ℕ → Node} {M : List Message} → Dealt N M → (u : ℕ) → dealings (N u .status) ≡ 0 → any (isAckTo u) M ≡ false

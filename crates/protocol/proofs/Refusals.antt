@@ -2,16 +2,15 @@
 -- well-formed network. And whatever is not refused is accepted. Assumes nothing.
 use mathlib.Core.Path.{_≡_, refl, ap, _∙_}
 use mathlib.Core.Logic.{⊎-elim, _↔_}
-use mathlib.Core.Bool.{Bool, true, false, not}
+use mathlib.Core.Bool.{true, false, not, _&&_}
 use mathlib.Core.List.{List}
 use mathlib.Core.Option.{Option, none, some}
 use Prim.Native.Nat.{ℕ}
 use lib.ListN.{length}
-use lib.Dec.{T, eqb}
-use borrow.Author.Tests.{eqb-false}
+use lib.Dec.{T}
 use Rattle.truth.proofs.TestLaws.{decided}
 use Rattle.refusal.specs.Rules.{no, first, settled}
-use Rattle.refusal.proofs.Laws.{Never, never}
+use Rattle.refusal.proofs.Laws.{Never, end, other, fails, never}
 use Rattle.node.specs.declared.Message.{Message}
 use Rattle.node.specs.Shape.{wellFormed as nodeIsSound, peerFits}
 use Rattle.node.proofs.FitLaws.{well-formed-among, peer-among}
@@ -47,9 +46,6 @@ accepted-said (leaves u p q n ec h er) = rw er tt
 accepted-said (delivers place m rest ec h act) = act-accepted act
 
 -- ---- no rule of a call on a well-formed network gives 6
-not-six : {m : ℕ} {b : Bool} → eqb m 6 ≡ false → m ≡ 6 → b ≡ false
-not-six {m} d e = absurd (eqb-false m 6 d e)
-
 module _ (s : State) (w : WellFormed s) where
   sound : not (wellFormed s) ≡ false
   sound = ap not (tested s w)
@@ -61,43 +57,16 @@ module _ (s : State) (w : WellFormed s) where
   peer-sound p known = let k = tested-below p (length (s .nodes)) known in peer-among (w .few-nodes) (peerAt s p) k (w .node p k .key)
 
   never-six : (call : Call) → Never 6 (rulesOf s call)
-  never-six (Declare key) = (λ _. sound, λ _. (not-six refl, λ _. (not-six refl, λ _. (not-six refl, λ _. tt))))
-  never-six (Create u) = (λ _. sound, λ _. (not-six refl, λ _. (not-six refl, λ _. (not-six refl, λ _. tt))))
-  never-six (Join u p q) = (
-    λ _. sound,
-    λ _. (
-      not-six refl,
-      λ known. (
-        not-six refl,
-        λ left. (
-          not-six refl,
-          λ right. (
-            λ _. rw (node-sound u known, peer-sound p left, peer-sound q right),
-            λ _. (
-              not-six refl,
-              λ _. (
-                not-six refl,
-                λ _. (
-                  not-six refl,
-                  λ _.
-                      (not-six refl, λ _. tt),
-                ),
-              ),
-            ),
-          ),
-        ),
-      ),
-    ),
-  )
-  never-six (Leave u) = (
-    λ _. sound,
-    λ _. (
-      not-six refl,
-      λ known.
-          (λ _. ap not (node-sound u known), λ _. (not-six refl, λ _. (not-six refl, λ _. (not-six refl, λ _. tt)))),
-    ),
-  )
-  never-six (Deliver place) = (λ _. sound, λ _. (not-six refl, λ _. (not-six refl, λ _. tt)))
+  never-six (Declare key) = fails sound (other refl (λ _. other refl (λ _. other refl (λ _. end))))
+  never-six (Create u) = fails sound (other refl (λ _. other refl (λ _. other refl (λ _. end))))
+  never-six (Join u p q) =
+      fails sound (other refl (λ known. other refl (λ left. other refl (λ right. fails (step known left right) (other refl (λ _. other refl (λ _. other refl (λ _. other refl (λ _. end)))))))))
+    where
+      step : not (declared s u) ≡ false → not (declared s p) ≡ false → not (declared s q) ≡ false
+          → not (nodeIsSound u (nodeAt s u) && (peerFits (peerAt s p) && peerFits (peerAt s q))) ≡ false
+      step known left right = rw (node-sound u known, peer-sound p left, peer-sound q right)
+  never-six (Leave u) = fails sound (other refl (λ known. fails (ap not (node-sound u known)) (other refl (λ _. other refl (λ _. other refl (λ _. end))))))
+  never-six (Deliver place) = fails sound (other refl (λ _. other refl (λ _. end)))
 
 -- ---- so 6 says that the network is not well formed, and nothing else
 first-six : (s : State) (call : Call) → wellFormed s ≡ false → first (rulesOf s call) ≡ some 6
@@ -113,4 +82,4 @@ six s call = (λ e. ⊎-elim (λ t. absurd (go (formed s t) (first (rulesOf s ca
   where
     go : WellFormed s → (o : Option ℕ) → first (rulesOf s call) ≡ o → settled o (refused s) (effectOf s call) .said ≡ no 6 → ⊥
     go w none clear e = let t : T false = rw e at (accepted-said (accepted-case s call clear)) in t
-    go w (some n) refuses e = let same : n ≡ 6 = cc in never 6 (rulesOf s call) (never-six s w call) (refuses ∙ ap some same)
+    go w (some n) refuses e = let same : n ≡ 6 = cc in never (never-six s w call) (refuses ∙ ap some same)

@@ -21,10 +21,11 @@ use Rattle.node.specs.declared.Node.{Node}
 use Rattle.node.specs.declared.Message.{Message}
 use Rattle.node.specs.Actions.{setR, setL, withStatus, created}
 use Rattle.protocol.specs.State.{isNoticeTo, dealings}
+use Rattle.protocol.proofs.Nodes.{At, unchanged}
 use Rattle.protocol.proofs.Waiting.{Dealt, request-deals, no-dealing}
 use Rattle.protocol.proofs.Fields.{statusOf, keyOf, leftOf, rightOf, lseqOf, rseqOf}
 use Rattle.protocol.proofs.Invariant.{isMember, Member, Keeps, stored, coming, LeftLink, Invariant}
-use Rattle.protocol.proofs.Frames.{At, unchanged, member-same, request-same, settled-in, settled-out}
+use Rattle.protocol.proofs.Frames.{member-same, request-same, settled-in, settled-out}
 
 module _ {N N′ : ℕ → Node} {M : List Message} {told told′ joins : ℕ → Bool} (dealt : Dealt N M) (inv : Invariant N M told joins)
     (i : ℕ) (others-told : (u : ℕ) → u ≢ i → told′ u ≡ told u) where

@@ -1,14 +1,13 @@
 -- Each call keeps the invariant: what a call does, case by case of `Changes`, is handed to the lemma about that kind of step, with the
 -- state's lists read as the function of nodes that the invariant speaks of. Assumes nothing.
-use mathlib.Core.Path.{_≡_, refl, sym, ap, _∙_}
+use mathlib.Core.Path.{_≡_, refl, ap, _∙_}
 use mathlib.Core.Logic.{_≢_}
 use mathlib.Core.Bool.{Bool, true, false}
-use mathlib.Core.List.{List, [], _∷_}
+use mathlib.Core.List.{List}
 use Prim.Native.Nat.{ℕ, _≤_, _<_}
 use native.Mathlib.Omega.{arith}
 use native.Mathlib.Decide.{decLt}
-use lib.ListN.{length, length-append, set, getD, List·getD-eq-default, List·getD-append}
-use lib.Seq.{getD-set-same, getD-set-other, getD-append-seam}
+use lib.ListN.{length}
 use lib.Dec.{ltb}
 use borrow.Author.Tests.{ltb-true, eq-eqb, ne-eqb}
 use Rattle.truth.specs.Tests.{count}
@@ -18,26 +17,26 @@ use Rattle.refusal.specs.Rules.{done, no as refusal}
 use Rattle.sequence.specs.Sequence.{nextSeq, cappedNext}
 use Rattle.node.specs.declared.Status.the-variants.{Out, Del}
 use Rattle.node.specs.declared.Seq.the-variants.{Is}
-use Rattle.node.specs.declared.Node.{Node}
 use Rattle.node.specs.declared.Message.{Message}
 use Rattle.node.specs.declared.Outcome.the-variants.{Granted}
-use Rattle.node.specs.Shape.{declaredOf, isInOrDel}
+use Rattle.node.specs.Shape.{isInOrDel}
 use Rattle.node.specs.Actions.{setR, seqOf}
 use Rattle.node.proofs.FitLaws.{message-facts, number-named}
 use Rattle.protocol.specs.declared.Call.{Call}
 use Rattle.protocol.specs.declared.Call.the-variants.{Declare, Create, Join, Leave, Deliver}
 use Rattle.protocol.specs.declared.Reply.the-variants.{Stepped}
 use Rattle.protocol.specs.State.{State, nodeAt, statusAt, isDealingOf, dealings}
-use Rattle.protocol.specs.Calls.{Result, declaring, messageAt, peerAt}
+use Rattle.protocol.specs.Calls.{Result, messageAt, peerAt}
 use Rattle.protocol.specs.History.{History, put, toldAfter, joinsAfter}
+use Rattle.protocol.proofs.Nodes.{declared-at, past, set-at}
 use Rattle.protocol.proofs.Waiting.{Taken, Dealt}
 use Rattle.protocol.proofs.Fields.{statusOf, senderOf}
 use Rattle.protocol.proofs.Facts.{WellFormed}
 use Rattle.protocol.proofs.Changes.{Act, drops, lets-in, lets-go, denies, joins, goes, stays-out, stays-in, takes, ignores}
 use Rattle.protocol.proofs.Changes.{Accepted, declares, creates, asks, goes-alone, leaves, delivers, Change, refuses, accepts}
 use Rattle.protocol.proofs.Moves.{unconcerned}
+use Rattle.protocol.proofs.Numbers.{NumbersFit}
 use Rattle.protocol.proofs.Invariant.{Invariant}
-use Rattle.protocol.proofs.Frames.{At}
 use Rattle.protocol.proofs.Answers.{joins-kept, goes-kept, stays-out-kept, stays-in-kept}
 use Rattle.protocol.proofs.Denials.{denies-kept, drops-kept}
 use Rattle.protocol.proofs.Notices.{takes-kept, ignores-kept}
@@ -47,25 +46,10 @@ use Rattle.protocol.proofs.Grants.{granted, lets-in-kept, lets-go-kept}
 
 pub record Good (h : History) : Type 0 where
   pub formed : WellFormed (h .state)
+  pub numbers : NumbersFit (nodeAt (h .state)) (h .state .messages)
   pub invariant : Invariant (nodeAt (h .state)) (h .state .messages) (h .told) (h .joins)
 
 -- ---- a state as the invariant sees it
-abbrev listed : List Node → ℕ → Node
-listed nodes u = getD nodes u (declaredOf 0)
-
-set-at : (nodes : List Node) {i : ℕ} {x : Node} → i < length nodes → At (listed nodes) i x (listed (set nodes i x))
-set-at nodes {i} {x} h = record { self = getD-set-same nodes i x (declaredOf 0) h; others = λ u d. getD-set-other nodes i u x (declaredOf 0) d }
-
-pub past : (s : State) (u : ℕ) → length (s .nodes) ≤ u → nodeAt s u ≡ declaredOf 0
-past s u le = List·getD-eq-default (s .nodes) (declaredOf 0) le
-
-declared-at : (s : State) (key : ℕ) → At (nodeAt s) (length (s .nodes)) (declaredOf key) (nodeAt (declaring s key .state))
-declared-at s key = record { self = getD-append-seam (s .nodes) (declaredOf key) [] (declaredOf 0); others = λ u d. go u d (decLt u (length (s .nodes))) }
-  where
-    go : (u : ℕ) → u ≢ length (s .nodes) → Dec (u < length (s .nodes)) → nodeAt (declaring s key .state) u ≡ nodeAt s u
-    go u d (yes k) = List·getD-append (s .nodes) (declaredOf key ∷ []) (declaredOf 0) u k
-    go u d (no k) = past (declaring s key .state) u (omega (arith, length-append (s .nodes) (declaredOf key ∷ []))) ∙ sym (past s u (omega arith))
-
 dealt : {s : State} → WellFormed s → Dealt (nodeAt s) (s .messages)
 dealt {s} w = record { most = λ u. go u (decLt u (length (s .nodes))) }
   where
@@ -120,11 +104,25 @@ module _ (h : History) (g : Good h) where
       → m .to < length (h .state .nodes) → Act (h .state) m rest r → After h (Deliver place) r
   act-holds place at t k (drops out er) = rw er (drops-kept (g .invariant) (set-at (h .state .nodes) k) (dealt (g .formed)) refl out t)
   act-holds place {rest = rest} at t k (lets-in v p e n l em gr room er) = rw er
-      (lets-in-kept (dealt (g .formed)) (g .invariant) (rw em at t) (granted rest p v e v (nextSeq l) (nextSeq l)) (gr .is-in) (gr .right) (gr .number)
-      (others-told place v (sender place at em)) (own-told place v (sender place at em)) (set-at (h .state .nodes) (rw em at k)))
+      (lets-in-kept (record {
+        dealt = dealt (g .formed);
+        inv = g .invariant;
+        taken = rw em at t;
+        queue = granted rest p v e v (nextSeq l) (nextSeq l);
+        is-in = gr .is-in;
+        right = gr .right;
+        at = set-at (h .state .nodes) (rw em at k);
+      }) (gr .number) (others-told place v (sender place at em)) (own-told place v (sender place at em)))
   act-holds place {rest = rest} at t k (lets-go v p new e n l em d gr er) = rw er
-      (lets-go-kept (dealt (g .formed)) (g .invariant) (rw em at t) (granted rest p v new p n (cappedNext l)) d (gr .is-in) (gr .right) (number v (rw em at t))
-      (others-told place v (sender place at em)) (own-told place v (sender place at em)) (set-at (h .state .nodes) (rw em at k)))
+      (lets-go-kept (record {
+        dealt = dealt (g .formed);
+        inv = g .invariant;
+        taken = rw em at t;
+        queue = granted rest p v new p n (cappedNext l);
+        is-in = gr .is-in;
+        right = gr .right;
+        at = set-at (h .state .nodes) (rw em at k);
+      }) d (number v (rw em at t)) (others-told place v (sender place at em)) (own-told place v (sender place at em)))
   act-holds place at t k (denies v p new e n em out er) = rw er (denies-kept (g .invariant) (set-at (h .state .nodes) (rw em at k)) v p new e n (rw em at t))
   act-holds place at t k (joins p u n em ins er) = rw er (joins-kept (dealt (g .formed)) (g .invariant) n (rw em at t) ins (set-at (h .state .nodes) (rw em at k)))
   act-holds place at t k (goes p u n em del er) = rw er (goes-kept (dealt (g .formed)) (g .invariant) n (rw em at t) del (set-at (h .state .nodes) (rw em at k)))

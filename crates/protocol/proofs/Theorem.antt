@@ -13,6 +13,7 @@ use Rattle.truth.specs.Tests.{any}
 use Rattle.truth.proofs.Laws.{true-is-not-false}
 use Rattle.truth.proofs.TestLaws.{_∈_, holds, is-true, not-both, none-in, some-in}
 use mathlib.Core.List.{List·Memᴰ·not-nil as in-none}
+use Rattle.sequence.proofs.Laws.{first-fits}
 use Rattle.links.proofs.Circuit.{no-ring, predecessor, circuit}
 use Rattle.node.specs.declared.Status.{Status}
 use Rattle.node.specs.declared.Status.the-variants.{Out, Ins, In, Del}
@@ -27,15 +28,17 @@ use Rattle.protocol.specs.declared.Call.{Call}
 use Rattle.protocol.specs.State.{State, nodeAt, statusAt, leftAt, rightAt, isAckTo, isNoticeTo, dealings, noticeWaits, isInserted, inserted}
 use Rattle.protocol.specs.History.{History, start, advanced, run, history}
 use Rattle.protocol.specs.Claim.{Inserted, Sound, RingClaim}
+use Rattle.protocol.proofs.Nodes.{past}
 use Rattle.protocol.proofs.Fields.{statusOf}
 use Rattle.protocol.proofs.Facts.{WellFormed, tested}
 use Rattle.protocol.proofs.Changes.{joins}
 use Rattle.protocol.proofs.Cases.{change}
+use Rattle.protocol.proofs.Numbers.{numbers-tested, numbers-kept}
 use Rattle.protocol.proofs.Kept.{kept}
 use Rattle.protocol.proofs.Lively.{lively}
 use Rattle.protocol.proofs.Invariant.{Member, Keeps, stored, coming, LeftLink, Invariant}
 use Rattle.protocol.proofs.Frames.{settled-in, settled-out, ins-not-del, member-not-out}
-use Rattle.protocol.proofs.Steps.{Good, past, call-holds}
+use Rattle.protocol.proofs.Steps.{Good, call-holds}
 
 -- ---- from the empty network, over any list
 good-start : Good start
@@ -48,6 +51,7 @@ good-start = record {
     dealing = λ u k. absurd (omega arith);
     message = λ m i. absurd (in-none i);
   };
+  numbers = record { left = λ u. first-fits; right = λ u. refl; waiting = λ m i. absurd (in-none i) };
   invariant = record {
     dealings = record {
       joiners = λ u e. absurd (settled-out .0 e);
@@ -69,7 +73,7 @@ good-run : (calls : List Call) (h : History) → Good h → Good (run h calls)
 good-run [] h g = g
 good-run (call ∷ calls) h g =
     let c = change (h .state) call in
-    good-run calls (advanced h call) (record { formed = kept (g .formed) c; invariant = call-holds h g c })
+    good-run calls (advanced h call) (record { formed = kept (g .formed) c; numbers = numbers-kept (h .state) (g .numbers) c; invariant = call-holds h g c })
 
 pub good : (calls : List Call) → Good (history calls)
 good calls = good-run calls start good-start
@@ -128,6 +132,7 @@ sound h g =
     let member : (u : ℕ) → (u ∈ o .order) ↔ Inserted s u = λ u. (λ i. holds (o .members u .0 i), λ t. o .members u .1 (is-true _ t)) in
     record {
       well-formed = holds (tested s (g .formed));
+      numbers-fit = holds (numbers-tested s (g .numbers));
       told = o .as-told;
       ring = record {
         circuit = circuit (o .ring) (Inserted s) member;

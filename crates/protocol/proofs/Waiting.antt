@@ -81,7 +81,7 @@ same-any test l m to from = ⊎-elim (λ t. t ∙ sym (over t)) (λ f. f ∙ sym
 pub record Dealt (N : ℕ → Node) (M : List Message) : Type 0 where
   pub most : (u : ℕ) → count (isDealingOf u) M ≤ dealings (N u .status)
 
-dealings-most : (s : Status) → dealings s ≤ 1
+pub dealings-most : (s : Status) → dealings s ≤ 1
 dealings-most Out = omega arith
 dealings-most Ins = omega arith
 dealings-most In = omega arith

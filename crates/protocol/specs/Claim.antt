@@ -12,7 +12,7 @@ use Rattle.node.specs.declared.Link.the-variants.{To}
 use Rattle.node.specs.declared.Message.{Message}
 use Rattle.protocol.specs.declared.Call.{Call}
 use Rattle.protocol.specs.declared.Call.the-variants.{Deliver}
-use Rattle.protocol.specs.State.{State, keyAt, leftAt, rightAt, isRequest, noticeWaits, wellFormed, inserted}
+use Rattle.protocol.specs.State.{State, keyAt, leftAt, rightAt, isRequest, noticeWaits, wellFormed, numbersFit, inserted}
 use Rattle.protocol.specs.Calls.{applyOf}
 use Rattle.protocol.specs.History.{accepted, History, history}
 
@@ -60,7 +60,9 @@ pub record Ringed (s : State) : Type 0 where
 
 -- ---- what holds after a list of calls
 pub record Sound (h : History) : Type 0 where
+  -- the network is well formed, and its numbers are such as the fields can hold
   pub well-formed : T (wellFormed (h .state))
+  pub numbers-fit : T (numbersFit (h .state))
   -- who is inserted by the calls and their outcomes is who is inserted by the definition under "Between"
   pub told : (u : ℕ) → h .told u ≡ inserted (h .state) u
   pub ring : Ringed (h .state)

@@ -6,9 +6,12 @@ use mathlib.Core.List.{List, []}
 use lib.ListN.{length, getD}
 use lib.Dec.{ltb, leb, eqb}
 use Rattle.truth.specs.Tests.{count, any, every, everyBelow}
+use Rattle.sequence.specs.Sequence.{isSeq}
 use Rattle.node.specs.declared.Status.{Status}
 use Rattle.node.specs.declared.Status.the-variants.{Out, Ins, In, Del}
 use Rattle.node.specs.declared.Link.{Link}
+use Rattle.node.specs.declared.Seq.{Seq}
+use Rattle.node.specs.declared.Seq.the-variants.{Unset, Is}
 use Rattle.node.specs.declared.Node.{Node}
 use Rattle.node.specs.declared.Kind.{Kind}
 use Rattle.node.specs.declared.Kind.the-variants.{SetR, SetRAck, SetRNak, SetL}
@@ -116,13 +119,29 @@ nodeIsWellFormed s u =
 
 -- "counts are within limits; .. keys differ and are in range; bench numbers in links and messages are declared; .. a bench not out has
 -- both links; a bench in or del has a right number; each bench has at most one SetR from it or answer to it waiting, and one only
--- while it is ins or del. Links need not form a ring". Numbers are at most 65,535 by their type, and what lies past the counts is
--- no part of these lists.
+-- while it is ins or del. Links need not form a ring". What lies past the counts is no part of these lists; that "numbers are at most
+-- 65,535" is in the fields' type, and stands apart, below.
 unfoldable pub wellFormed : State → Bool
 wellFormed s =
     (leb (length (s .nodes)) capacity && leb (length (s .messages)) queueLimit)
     && (everyBelow (length (s .nodes)) (nodeIsWellFormed s)
     && every (messageFits (length (s .nodes))) (s .messages))
+
+-- ---- "numbers are at most 65,535": what the fields of nodes and messages can hold
+abbrev pub seqFits : Seq → Bool
+seqFits Unset = true
+seqFits (Is n) = isSeq n
+
+abbrev pub numberFits : Kind → Bool
+numberFits (SetR new expected number) = isSeq number
+numberFits (SetRAck number) = isSeq number
+numberFits SetRNak = true
+numberFits (SetL left number) = isSeq number
+
+unfoldable pub numbersFit : State → Bool
+numbersFit s =
+    everyBelow (length (s .nodes)) (λ u. isSeq (nodeAt s u .lseq) && seqFits (nodeAt s u .rseq))
+    && every (λ m. numberFits (m .kind)) (s .messages)
 
 -- ---- "A bench is inserted if it is in; or ins with a SetRAck to it waiting; or del with none waiting"
 abbrev pub isInserted : Status → Bool → Bool

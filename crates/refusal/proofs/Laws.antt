@@ -1,13 +1,14 @@
 -- Laws of refusals: each has a number of its own, so a number names its refusal; and a check that says what a call's rules say
 -- settles the call. Assumes nothing.
 use mathlib.Core.Path.{_≡_, refl, sym, ap, _∙_}
-use mathlib.Core.Bool.{true, false, cond}
+use mathlib.Core.Bool.{Bool, true, false, cond}
 use mathlib.Core.List.{List, [], _∷_}
 use mathlib.Core.Option.{none, some}
 use Prim.Native.Nat.{ℕ, _-_}
 use native.Mathlib.Omega.{arith}
 use lib.ListN.{getD}
-use lib.Dec.{ltb}
+use lib.Dec.{ltb, eqb}
+use borrow.Author.Tests.{eqb-false}
 use Rattle.refusal.specs.declared.Refusal.{Refusal}
 use Rattle.refusal.specs.declared.Refusal.the-variants.{UnknownMark, CutShort, BadDigit, SerialTooLarge, Undeclared, Malformed, ScriptTooLong, NetworkFull, KeyTaken, NotAllOut, NotOut, NotBetween, NoticeWaiting, NotIn, SequenceSpent, QueueFull, NoMessage, StartNotInserted, OwnerNotFound}
 use Rattle.refusal.specs.declared.Check.{Check}
@@ -68,12 +69,17 @@ cleared [] e = tt
 cleared ((n when true) ∷ rules) e = let z : _≡_ {A = ℕ} 0 1 = cc in absurd (omega arith)
 cleared ((n when false) ∷ rules) e = (refl, cleared rules e)
 
--- ---- a number that is not given: wherever a rule has it, and no rule before it refuses, its condition does not hold
-abbrev pub Never : ℕ → List Rule → Type 0
-Never n [] = Unit {0}
-Never n ((m when refuses) ∷ rules) = (m ≡ n → refuses ≡ false) × (refuses ≡ false → Never n rules)
+-- ---- a number that is not given: each rule has another, or its condition does not hold where no rule before it refuses
+pub data Never (n : ℕ) : List Rule → Type 0 where
+  end : Never n []
+  other : {m : ℕ} {refuses : Bool} {rules : List Rule} → eqb m n ≡ false → (refuses ≡ false → Never n rules) → Never n ((m when refuses) ∷ rules)
+  fails : {m : ℕ} {refuses : Bool} {rules : List Rule} → refuses ≡ false → Never n rules → Never n ((m when refuses) ∷ rules)
 
-pub never : (n : ℕ) (rules : List Rule) → Never n rules → first rules ≡ some n → ⊥
-never n [] t e = let z : _≡_ {A = ℕ} 0 1 = cc in omega arith
-never n ((m when true) ∷ rules) t e = let same : m ≡ n = cc in let f = t .0 same in let z : _≡_ {A = ℕ} 0 1 = cc in omega arith
-never n ((m when false) ∷ rules) t e = never n rules (t .1 refl) e
+pub never : {n : ℕ} {rules : List Rule} → Never n rules → first rules ≡ some n → ⊥
+never end e = let z : _≡_ {A = ℕ} 0 1 = cc in omega arith
+never {n} (other {m} {refuses} {rules} d t) e = go refuses refl (λ f. never (t f))
+  where
+    go : (b : Bool) → refuses ≡ b → (refuses ≡ false → first rules ≡ some n → ⊥) → ⊥
+    go true f later = let given : some m ≡ some n = rw f at e in let same : m ≡ n = cc in eqb-false m n d same
+    go false f later = later f (rw f at e)
+never (fails f t) e = never t (rw f at e)

@@ -1,12 +1,13 @@
 -- Laws of sequence numbers. Proofs cite these, and not the definitions' text. Assumes nothing.
-use mathlib.Core.Path.{_≡_}
+use mathlib.Core.Path.{_≡_, refl}
 use mathlib.Core.Logic.{_⊎_, inl, inr}
-use mathlib.Core.Bool.{true, false}
-use Prim.Native.Nat.{ℕ, _<_}
+use mathlib.Core.Bool.{Bool, true, false}
+use Prim.Native.Nat.{ℕ, _+_, _<_}
 use native.Mathlib.Omega.{arith}
 use native.Mathlib.Decide.{decLt}
 use lib.Dec.{T, ltb, ltb→lt, lt→ltb}
-use Rattle.sequence.specs.Sequence.{firstSeq, lastSeq, nextSeq, newer, hasNext, cappedNext}
+use borrow.Author.Tests.{ltb-true, le-leb}
+use Rattle.sequence.specs.Sequence.{firstSeq, lastSeq, isSeq, nextSeq, newer, hasNext, cappedNext}
 
 -- n is newer than m
 abbrev pub Newer : ℕ → ℕ → Type 0
@@ -51,3 +52,23 @@ capped-next n h = rw h
 pub capped-last : (n : ℕ) → hasNext n ≡ false → cappedNext n ≡ lastSeq
 unfolding cappedNext
 capped-last n h = rw h
+
+-- ---- none of these leads past the last number
+pub first-fits : isSeq firstSeq ≡ true
+unfolding isSeq firstSeq lastSeq
+first-fits = refl
+
+pub next-fits : (n : ℕ) → hasNext n ≡ true → isSeq (nextSeq n) ≡ true
+unfolding isSeq hasNext nextSeq
+next-fits n h = le-leb (n + 1) lastSeq (omega (arith, ltb-true n lastSeq h))
+
+last-fits : isSeq lastSeq ≡ true
+unfolding isSeq
+last-fits = le-leb lastSeq lastSeq (omega arith)
+
+pub capped-fits : (n : ℕ) → isSeq (cappedNext n) ≡ true
+capped-fits n = go (hasNext n) refl
+  where
+    go : (b : Bool) → hasNext n ≡ b → isSeq (cappedNext n) ≡ true
+    go true h = rw (capped-next n h) (next-fits n h)
+    go false h = rw (capped-last n h) last-fits

@@ -2,7 +2,7 @@
 -- what follows from them is in `proofs/Laws.antt`. Definitions only.
 use Prim.Native.Nat.{ℕ, _+_}
 use mathlib.Core.Bool.{Bool, cond}
-use lib.Dec.{ltb}
+use lib.Dec.{ltb, leb}
 
 -- "both numbers 0"
 unfoldable pub firstSeq : ℕ
@@ -11,6 +11,10 @@ firstSeq = 0
 -- "The 65,535 limit is ours."
 unfoldable pub lastSeq : ℕ
 lastSeq = 65_535
+
+-- "a left number and a right number (0 to 65,535)"
+unfoldable pub isSeq : ℕ → Bool
+isSeq n = leb n lastSeq
 
 unfoldable pub nextSeq : ℕ → ℕ
 nextSeq n = n + 1

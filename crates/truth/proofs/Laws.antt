@@ -22,6 +22,14 @@ pub not-left : (p q : Bool) → p ≡ false → (p || q) ≡ true → q ≡ true
 not-left true q e h = absurd (true-is-not-false (sym e))
 not-left false q e h = h
 
+pub or-false : (p : Bool) → (p || false) ≡ p
+or-false true = refl
+or-false false = refl
+
+pub and-false : (p : Bool) → (p && false) ≡ false
+and-false true = refl
+and-false false = refl
+
 pub left-fails : (p q : Bool) → (p && q) ≡ false → q ≡ true → p ≡ false
 left-fails true q h e = absurd (true-is-not-false (sym h ∙ e))
 left-fails false q h e = refl
