@@ -24,7 +24,7 @@ use Rattle.node.specs.declared.Kind.the-variants.{SetRAck, SetL}
 use Rattle.node.specs.declared.Node.{Node}
 use Rattle.node.specs.declared.Message.{Message}
 use Rattle.node.specs.Actions.{setR, setRAck, setL, relinked}
-use Rattle.protocol.specs.State.{isAck, isAckTo, isDealingOf, isNotice, isRequest}
+use Rattle.protocol.specs.State.{isAck, isAckTo, isNotice, isRequest}
 use Rattle.protocol.proofs.Nodes.{At, unchanged}
 use Rattle.protocol.proofs.Waiting.{Taken, Dealt, apart, in-two, same-any, request-deals, ack-deals, only-dealing, no-ack, waits-for, acks-left}
 use Rattle.protocol.proofs.Fields.{statusOf, keyOf, leftOf, rightOf, lseqOf, rseqOf, kindOf, toOf}
@@ -72,6 +72,16 @@ pub record Grant (N N′ : ℕ → Node) (M rest M′ : List Message) (told join
 module _ {N N′ : ℕ → Node} {M rest M′ : List Message} {told joins : ℕ → Bool} {v p new e n q a k l : ℕ} (c : Grant N N′ M rest M′ told joins v p new e n q a k l) where
   status : (u : ℕ) → N′ u .status ≡ N u .status
   status = unchanged (c .at) statusOf refl
+
+  -- v waits with this request and no answer
+  waiting : Request N v p new e n
+  waiting = c .inv .dealings .requests v p new e n (c .taken .waits)
+
+  waits : (N v .status ≡ Ins) ⊎ (N v .status ≡ Del)
+  waits = waits-for (c .dealt) v (c .taken .waits) (request-deals v p new e n)
+
+  no-answer : any (isAckTo v) M ≡ false
+  no-answer = no-ack (c .dealt) v (c .taken) (request-deals v p new e n) refl
 
   granting : Member N M p
   granting = member-same (c .is-in) refl
@@ -170,20 +180,14 @@ module _ {N N′ : ℕ → Node} {M rest M′ : List Message} {told told′ join
     };
   }
     where
-      waiting : Request N v p v e n
-      waiting = c .inv .dealings .requests v p v e n (c .taken .waits)
-
-      deals : isDealingOf v (setR v p v e n) ≡ true
-      deals = request-deals v p v e n
-
       ins : N v .status ≡ Ins
-      ins = ⊎-elim (λ h. h) (λ h. absurd (waiting .by-leaver h .another refl)) (waits-for (c .dealt) v (c .taken .waits) deals)
+      ins = ⊎-elim (λ h. h) (λ h. absurd (waiting c .by-leaver h .another refl)) (waits c)
 
       asked : ByJoiner N v p v e n
-      asked = waiting .by-joiner ins
+      asked = waiting c .by-joiner ins
 
       not-yet : isMember N M v ≡ false
-      not-yet = member-same ins (no-ack (c .dealt) v (c .taken) deals refl)
+      not-yet = member-same ins (no-answer c)
 
       own : isMember N′ M′ v ≡ true
       own = member-same (status c v ∙ ins) (acked c)
@@ -215,7 +219,7 @@ module _ {N N′ : ℕ → Node} {M rest M′ : List Message} {told told′ join
       -- the joiner's number is the one that the answer brings it
       joiner-keeps : (R : ℕ) → Keeps N′ M′ v R → R ≡ nextSeq k
       joiner-keeps R (stored f h) = absurd (f (status c v ∙ ins))
-      joiner-keeps R (coming h x j) = ⊎-elim (λ i. absurd (not-both (ack-deals x v R) (only-dealing (c .dealt) v (c .taken) deals i))) (λ z. z .1) (c .queue .acks x v R j)
+      joiner-keeps R (coming h x j) = ⊎-elim (λ i. absurd (not-both (ack-deals x v R) (only-dealing (c .dealt) v (c .taken) (request-deals v p v e n) i))) (λ z. z .1) (c .queue .acks x v R j)
 
       no-notice : (x b m : ℕ) → ¬ (setL x v b m ∈ M′)
       no-notice x b m j =
@@ -257,20 +261,14 @@ module _ {N N′ : ℕ → Node} {M rest M′ : List Message} {told told′ join
     };
   }
     where
-      waiting : Request N v p new e n
-      waiting = c .inv .dealings .requests v p new e n (c .taken .waits)
-
-      deals : isDealingOf v (setR v p new e n) ≡ true
-      deals = request-deals v p new e n
-
       del : N v .status ≡ Del
-      del = ⊎-elim (λ h. absurd (another (waiting .by-joiner h .itself))) (λ h. h) (waits-for (c .dealt) v (c .taken .waits) deals)
+      del = ⊎-elim (λ h. absurd (another (waiting c .by-joiner h .itself))) (λ h. h) (waits c)
 
       asked : ByLeaver N v new e n
-      asked = waiting .by-leaver del
+      asked = waiting c .by-leaver del
 
       still : Member N M v
-      still = member-same del (no-ack (c .dealt) v (c .taken) deals refl)
+      still = member-same del (no-answer c)
 
       gone : isMember N′ M′ v ≡ false
       gone = member-same (status c v ∙ del) (acked c)

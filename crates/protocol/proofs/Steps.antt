@@ -44,6 +44,7 @@ use Rattle.protocol.proofs.Orders.{declares-kept, asks-kept, leaves-kep
 use Rattle.protocol.proofs.Single.{creates-kept, goes-alone-kept}
 use Rattle.protocol.proofs.Grants.{granted, lets-in-kept, lets-go-kept}
 
+-- what is kept from call to call
 pub record Good (h : History) : Type 0 where
   pub formed : WellFormed (h .state)
   pub numbers : NumbersFit (nodeAt (h .state)) (h .state .messages)
