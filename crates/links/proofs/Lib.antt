@@ -2,5 +2,6 @@ pub mod Ring
 pub mod Lists
 pub mod Trails
 pub mod Circuit
+pub mod Owner
 pub mod Change
 pub mod Example

@@ -1,14 +1,16 @@
--- Lists of nodes, nothing of links: where a member stands, what holds of every member, how many pass a test, and ascending lists with
--- a node more or less. By induction on the list. Assumes nothing.
+-- Lists of nodes, nothing of links: where a member stands, what holds of every member, how many pass a test, ascending lists with a
+-- node more or less, and how long they can be. By induction on the list, or on the numbers allowed. Assumes nothing.
 use mathlib.Core.Path.{_≡_, refl, sym, ap}
 use mathlib.Core.Logic.{_⊎_, inl, inr, ⊎-elim, _↔_, _≢_}
-use mathlib.Core.Bool.{Bool}
+use mathlib.Core.Bool.{Bool, true, false}
 use mathlib.Core.List.{List, [], _∷_, _++_}
-use Prim.Native.Nat.{ℕ, _<_}
+use Prim.Native.Nat.{ℕ, zero, suc, _≤_, _<_}
 use native.Mathlib.Omega.{arith}
-use borrow.Author.Tests.{eq-eqb, ne-eqb}
-use Rattle.truth.specs.Tests.{count}
-use Rattle.truth.proofs.TestLaws.{_∈_, bit-true, bit-false, count-append}
+use lib.ListN.{length, length-append}
+use lib.Dec.{eqb}
+use borrow.Author.Tests.{eq-eqb, ne-eqb, eqb-true, eqb-false}
+use Rattle.truth.specs.Tests.{count, any}
+use Rattle.truth.proofs.TestLaws.{_∈_, decided, bit-true, bit-false, some-in, none-in, count-append}
 use Rattle.links.specs.Walk.{times}
 use Rattle.links.proofs.Ring.{here, there, in-nil, in-cons, in-part, in-left, in-right, Ascending}
 
@@ -88,3 +90,28 @@ module _ (key : ℕ → ℕ) where
   pub ascending-without : (pre : List ℕ) (u : ℕ) (post : List ℕ) → Ascending key (pre ++ u ∷ post) → Ascending key (pre ++ post)
   ascending-without [] u post h = h .1
   ascending-without (a ∷ pre) u post h = (λ y i. h .0 y (adds-between pre post u y .1 (inl i)), ascending-without pre u post (h .1))
+
+  -- of nodes numbered below n there are no more than n
+  pub few-below : (n : ℕ) (L : List ℕ) → Ascending key L → ((m : ℕ) → m ∈ L → m < n) → length L ≤ n
+  few-below zero [] asc below = omega arith
+  few-below zero (a ∷ l) asc below = absurd (omega (arith, below a (here refl)))
+  few-below (suc n) L asc below = ⊎-elim (present (few-below n)) (absent (few-below n)) (decided (any (eqb n) L))
+    where
+      FewBelow : Type 0
+      FewBelow = (l : List ℕ) → Ascending key l → ((m : ℕ) → m ∈ l → m < n) → length l ≤ n
+
+      present : FewBelow → any (eqb n) L ≡ true → length L ≤ suc n
+      present few t =
+          let (x, i, same) = some-in (eqb n) L t in
+          let (pre, post, e) = cut i in
+          let rest : (m : ℕ) → m ∈ (pre ++ post) → m < n = λ m j. omega (
+            arith,
+            below m (rw e (adds-between pre post x m .1 (inl j))),
+            others-differ pre x post (rw e at asc) m (swapped pre post j),
+            eqb-true n x same,
+          ) in
+          let shorter = few (pre ++ post) (ascending-without pre x post (rw e at asc)) rest in
+          omega (arith, ap length e, length-append pre (x ∷ post), length-append pre post)
+
+      absent : FewBelow → any (eqb n) L ≡ false → length L ≤ suc n
+      absent few f = omega (arith, few L asc (λ m i. omega (arith, below m i, eqb-false n m (none-in (eqb n) f i))))

@@ -8,6 +8,7 @@ pub mod Refusals
 pub mod Moves
 pub mod Kept
 pub mod Lively
+pub mod Drains
 pub mod Numbers
 pub mod Invariant
 pub mod Frames
@@ -19,4 +20,5 @@ pub mod Single
 pub mod Grants
 pub mod Steps
 pub mod Theorem
+pub mod Owners
 pub mod Example

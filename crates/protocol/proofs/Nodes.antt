@@ -8,10 +8,12 @@ use native.Mathlib.Omega.{arith}
 use native.Mathlib.Decide.{decLt, ℕ-discrete}
 use lib.ListN.{length, length-append, set, getD, List·getD-eq-default, List·getD-append}
 use lib.Seq.{getD-set-same, getD-set-other, getD-append-seam}
+use Rattle.node.specs.declared.Status.the-variants.{Out}
 use Rattle.node.specs.declared.Node.{Node}
 use Rattle.node.specs.Shape.{declaredOf}
-use Rattle.protocol.specs.State.{State, nodeAt}
+use Rattle.protocol.specs.State.{State, nodeAt, statusAt}
 use Rattle.protocol.specs.Calls.{declaring}
+use Rattle.protocol.proofs.Fields.{statusOf}
 
 -- ---- node i stands as x, all others as they were
 pub record At (N : ℕ → Node) (i : ℕ) (x : Node) (N′ : ℕ → Node) : Type 0 where
@@ -35,6 +37,14 @@ set-at nodes {i} {x} h = record { self = getD-set-same nodes i x (declaredOf 0) 
 
 pub past : (s : State) (u : ℕ) → length (s .nodes) ≤ u → nodeAt s u ≡ declaredOf 0
 past s u le = List·getD-eq-default (s .nodes) (declaredOf 0) le
+
+-- past the last one there is only what is out
+pub declared-unless-out : (s : State) (u : ℕ) → statusAt s u ≢ Out → u < length (s .nodes)
+declared-unless-out s u d = go (decLt u (length (s .nodes)))
+  where
+    go : Dec (u < length (s .nodes)) → u < length (s .nodes)
+    go (yes k) = k
+    go (no k) = absurd (d (ap statusOf (past s u (omega arith))))
 
 pub declared-at : (s : State) (key : ℕ) → At (nodeAt s) (length (s .nodes)) (declaredOf key) (nodeAt (declaring s key .state))
 declared-at s key = record { self = getD-append-seam (s .nodes) (declaredOf key) [] (declaredOf 0); others = λ u d. go u d (decLt u (length (s .nodes))) }

@@ -6,7 +6,7 @@ use mathlib.Core.Bool.{Bool, true, false}
 use mathlib.Core.List.{List, [], _∷_}
 use Prim.Native.Nat.{ℕ, _<_}
 use native.Mathlib.Omega.{arith}
-use native.Mathlib.Decide.{decLt, ℕ-discrete}
+use native.Mathlib.Decide.{ℕ-discrete}
 use lib.ListN.{length}
 use borrow.Author.Tests.{eq-eqb, eqb-true}
 use Rattle.truth.specs.Tests.{any}
@@ -28,8 +28,7 @@ use Rattle.protocol.specs.declared.Call.{Call}
 use Rattle.protocol.specs.State.{State, nodeAt, statusAt, leftAt, rightAt, isAckTo, isNoticeTo, dealings, noticeWaits, isInserted, inserted}
 use Rattle.protocol.specs.History.{History, start, advanced, run, history}
 use Rattle.protocol.specs.Claim.{Inserted, Sound, RingClaim}
-use Rattle.protocol.proofs.Nodes.{past}
-use Rattle.protocol.proofs.Fields.{statusOf}
+use Rattle.protocol.proofs.Nodes.{declared-unless-out}
 use Rattle.protocol.proofs.Facts.{WellFormed, tested}
 use Rattle.protocol.proofs.Changes.{joins}
 use Rattle.protocol.proofs.Cases.{change}
@@ -94,15 +93,11 @@ module _ {s : State} {told joins : ℕ → Bool} (w : WellFormed s) (inv : Invar
   keeps : (v : ℕ) → Member (nodeAt s) (s .messages) v → (R : ℕ) × Keeps (nodeAt s) (s .messages) v R
   keeps v m = go (statusAt s v) refl
     where
-      declared : statusAt s v ≢ Out → v < length (s .nodes)
-      declared d = inside (decLt v (length (s .nodes)))
-        where
-          inside : Dec (v < length (s .nodes)) → v < length (s .nodes)
-          inside (yes k) = k
-          inside (no k) = absurd (d (ap statusOf (past s v (omega arith))))
+      declared : v < length (s .nodes)
+      declared = declared-unless-out s v (member-not-out (nodeAt s) (s .messages) v m)
 
       by-number : isInOrDel (statusAt s v) ≡ true → statusAt s v ≢ Ins → (R : ℕ) × Keeps (nodeAt s) (s .messages) v R
-      by-number e not-ins = (seqOf (nodeAt s v .rseq), stored not-ins (number-named (w .node v (declared (member-not-out (nodeAt s) (s .messages) v m))) e))
+      by-number e not-ins = (seqOf (nodeAt s v .rseq), stored not-ins (number-named (w .node v declared) e))
 
       go : (status : Status) → statusAt s v ≡ status → (R : ℕ) × Keeps (nodeAt s) (s .messages) v R
       go Out e = absurd (member-not-out (nodeAt s) (s .messages) v m e)
@@ -124,12 +119,17 @@ module _ {s : State} {told joins : ℕ → Bool} (w : WellFormed s) (inv : Invar
       go R link (yes e) = link .settled e
       go R link (no d) = let (x, a, i) = link .awaited d in absurd (not-both (eq-eqb u u refl) (none-in (isNoticeTo u) quiet i))
 
+-- the list that is the ring is that of the inserted nodes
+pub listed-inserted : {h : History} (g : Good h) (u : ℕ) → (u ∈ g .invariant .order .order) ↔ Inserted (h .state) u
+unfolding inserted
+listed-inserted g u = let o = g .invariant .order in (λ i. holds (o .members u .0 i), λ t. o .members u .1 (is-true _ t))
+
 pub sound : (h : History) → Good h → Sound h
 unfolding inserted
 sound h g =
     let s = h .state in
     let o = g .invariant .order in
-    let member : (u : ℕ) → (u ∈ o .order) ↔ Inserted s u = λ u. (λ i. holds (o .members u .0 i), λ t. o .members u .1 (is-true _ t)) in
+    let member : (u : ℕ) → (u ∈ o .order) ↔ Inserted s u = listed-inserted g in
     record {
       well-formed = holds (tested s (g .formed));
       numbers-fit = holds (numbers-tested s (g .numbers));

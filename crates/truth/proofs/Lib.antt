@@ -1,2 +1,3 @@
 pub mod Laws
 pub mod TestLaws
+pub mod WordLaws

@@ -1,14 +1,17 @@
--- What the tests over a list, and over the numbers below a bound, say of each member: by going through the list. Assumes nothing.
-use mathlib.Core.Path.{_≡_, refl, ap, _∙_}
+-- What the tests over a list, and over the numbers below a bound, say of each member, and what they give for a list
+-- put together from parts: by going through the list. Assumes nothing.
+use mathlib.Core.Path.{_≡_, refl, sym, ap, _∙_}
 use mathlib.Core.Logic.{_⊎_, inl, inr, ⊎-elim}
-use mathlib.Core.Bool.{Bool, true, false, _||_}
+use mathlib.Core.Bool.{Bool, true, false, _&&_, _||_, and-assoc, or-assoc, and-true}
 use mathlib.Core.List.{List, [], _∷_, _++_, List·Memᴰ, List·Memᴰ·head as here, List·Memᴰ·tail as there}
 use Prim.Native.Nat.{ℕ, zero, suc, _+_, _≤_, _<_}
 use native.Mathlib.Omega.{arith}
 use native.Mathlib.Decide.{ℕ-discrete}
 use lib.Dec.{T}
+use lib.ListN.{length, take, drop, getD, take-append-drop}
+use lib.Seq.{take-suc}
 use Rattle.truth.specs.Tests.{bit, count, any, every, everyBelow}
-use Rattle.truth.proofs.Laws.{true-is-not-false, both, or-right}
+use Rattle.truth.proofs.Laws.{true-is-not-false, both, or-right, and-false, or-false}
 
 -- x is one of l
 infix 4 _∈_
@@ -76,6 +79,30 @@ module _ {A : Type 0} (test : A → Bool) where
   pub none-counted : {l : List A} {x : A} → count test l ≡ 0 → x ∈ l → test x ≡ false
   none-counted {x} n i = ⊎-elim (λ t. absurd (omega (arith, count-in i t))) (λ f. f) (decided (test x))
 
+-- ---- a list put together, and its beginnings
+module _ {A : Type 0} (test : A → Bool) where
+  pub every-append : (l m : List A) → every test (l ++ m) ≡ (every test l && every test m)
+  every-append [] m = refl
+  every-append (x ∷ l) m = rw (every-append l m, and-assoc)
+
+  pub any-append : (l m : List A) → any test (l ++ m) ≡ (any test l || any test m)
+  any-append [] m = refl
+  any-append (x ∷ l) m = rw (any-append l m, or-assoc)
+
+  -- one member more
+  pub every-take : (l : List A) (i : ℕ) (d : A) → i < length l → every test (take (suc i) l) ≡ (every test (take i l) && test (getD l i d))
+  every-take l i d k = rw (take-suc l i d k, every-append, and-true)
+
+  pub any-take : (l : List A) (i : ℕ) (d : A) → i < length l → any test (take (suc i) l) ≡ (any test (take i l) || test (getD l i d))
+  any-take l i d k = rw (take-suc l i d k, any-append, or-false)
+
+  pub count-take : (l : List A) (i : ℕ) (d : A) → i < length l → count test (take (suc i) l) ≡ count test (take i l) + bit (test (getD l i d))
+  count-take l i d k = rw (take-suc l i d k, count-append test) (omega arith)
+
+  -- a beginning has no more that pass
+  pub count-more : (l : List A) (i : ℕ) → count test (take i l) ≤ count test l
+  count-more l i = omega (arith, count-append test (take i l) (drop i l), ap (count test) (take-append-drop i l))
+
 -- ---- the numbers below a bound
 pub below-at : (n : ℕ) (test : ℕ → Bool) → everyBelow n test ≡ true → (i : ℕ) → i < n → test i ≡ true
 below-at zero test h i k = absurd (omega arith)
@@ -90,3 +117,19 @@ below-at (suc n) test h i k =
 pub below-all : (n : ℕ) (test : ℕ → Bool) → ((i : ℕ) → i < n → test i ≡ true) → everyBelow n test ≡ true
 below-all zero test f = refl
 below-all (suc n) test f = rw (below-all n test (λ i k. f i (omega arith))) (f n (omega arith))
+
+pub below-fails : (n : ℕ) (test : ℕ → Bool) (i : ℕ) → i < n → test i ≡ false → everyBelow n test ≡ false
+below-fails n test i k f = ⊎-elim (λ h. absurd (not-both (below-at n test h i k) f)) (λ e. e) (decided (everyBelow n test))
+
+pub below-agree : (n : ℕ) (f g : ℕ → Bool) → ((i : ℕ) → i < n → f i ≡ g i) → everyBelow n f ≡ everyBelow n g
+below-agree zero f g same = refl
+below-agree (suc n) f g same = rw (same n (omega arith), below-agree n f g (λ i k. same i (omega arith)))
+
+and-regroup : (p q r s : Bool) → ((p && q) && (r && s)) ≡ ((p && r) && (q && s))
+and-regroup true true r s = refl
+and-regroup true false r s = sym (and-false r)
+and-regroup false q r s = refl
+
+pub below-both : (n : ℕ) (f g : ℕ → Bool) → everyBelow n (λ i. f i && g i) ≡ (everyBelow n f && everyBelow n g)
+below-both zero f g = refl
+below-both (suc n) f g = rw (below-both n f g) (and-regroup (everyBelow n f) (everyBelow n g) (f n) (g n))

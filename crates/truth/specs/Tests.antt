@@ -1,5 +1,5 @@
 -- Tests over the members of a list, and over the numbers below a bound. Definitions only.
-use Prim.Native.Nat.{ℕ, zero, suc, _+_}
+use Prim.Native.Nat.{ℕ, zero, suc, _+_, _*_, _^_}
 use mathlib.Core.Bool.{Bool, true, false, _&&_, _||_}
 use mathlib.Core.List.{List, [], _∷_}
 
@@ -26,3 +26,13 @@ every test (x ∷ l) = test x && every test l
 abbrev pub everyBelow : ℕ → (ℕ → Bool) → Bool
 everyBelow zero test = true
 everyBelow (suc n) test = everyBelow n test && test n
+
+-- how many numbers below n pass
+abbrev pub countBelow : ℕ → (ℕ → Bool) → ℕ
+countBelow zero test = 0
+countBelow (suc n) test = countBelow n test + bit (test n)
+
+-- the word whose bit u says, for each u below n, whether u passes
+abbrev pub wordBelow : ℕ → (ℕ → Bool) → ℕ
+wordBelow zero test = 0
+wordBelow (suc n) test = bit (test n) * 2 ^ n + wordBelow n test

@@ -1,0 +1,57 @@
+-- A drain of a network (paper 01: "run down"): deliveries one after the other, each at the lowest place where one is not refused, until
+-- nothing waits or a budget is spent. Definitions only.
+use Prim.Native.Nat.{ℕ, zero, suc}
+use mathlib.Core.Bool.{not, cond}
+use mathlib.Core.List.{List, [], _∷_}
+use mathlib.Core.Option.{Option, none, some}
+use lib.ListN.{length}
+use Rattle.refusal.specs.Rules.{Coded, done, no, _when_, ruled}
+use Rattle.protocol.specs.declared.Call.the-variants.{Deliver}
+use Rattle.protocol.specs.State.{State, wellFormed}
+use Rattle.protocol.specs.Calls.{applyOf}
+use Rattle.protocol.specs.History.{accepted}
+
+-- "the lowest place that is not refused", of the k places from `place` on
+abbrev pub lowestFrom : State → ℕ → ℕ → Option ℕ
+lowestFrom s place zero = none
+lowestFrom s place (suc k) = cond (accepted (applyOf s (Deliver place) .said)) (some place) (lowestFrom s (suc place) k)
+
+abbrev pub lowest : State → Option ℕ
+lowest s = lowestFrom s 0 (length (s .messages))
+
+abbrev pub afterDelivery : State → ℕ → State
+afterDelivery s place = applyOf s (Deliver place) .state
+
+-- the place, and those of what is still to be done after a delivery there
+abbrev pub placesFrom : (State → List ℕ) → State → Option ℕ → List ℕ
+placesFrom rest s none = []
+placesFrom rest s (some place) = place ∷ rest (afterDelivery s place)
+
+-- "deliver .. again and again, until nothing waits or the budget is spent": the places of these deliveries, in turn
+abbrev pub places : ℕ → State → List ℕ
+places zero s = []
+places (suc budget) s = placesFrom (places budget) s (lowest s)
+
+-- the network after deliveries at these places
+abbrev pub deliverAll : State → List ℕ → State
+deliverAll s [] = s
+deliverAll s (place ∷ rest) = deliverAll (afterDelivery s place) rest
+
+-- "The answer is the deliveries made and the messages left."
+pub record Drained : Type 0 where
+  pub made : ℕ
+  pub left : ℕ
+
+-- what a drain comes to: the network left behind, and an answer or the number of a refusal
+pub record Drain : Type 0 where
+  pub state : State
+  pub said : Coded Drained
+
+abbrev pub refusedDrain : State → ℕ → Drain
+refusedDrain s n = record { state = s; said = no n }
+
+abbrev pub drained : State → List ℕ → Drain
+drained s places = record { state = deliverAll s places; said = done (record { made = length places; left = length (deliverAll s places .messages) }) }
+
+unfoldable pub drainOf : State → ℕ → Drain
+drainOf s budget = ruled ((6 when not (wellFormed s)) ∷ []) (refusedDrain s) (drained s (places budget s))

@@ -1,0 +1,59 @@
+-- What the ring means for the questions, and what a drain is: claims beside the one of demand 3, each stated in full and citing no
+-- proof. Definitions only.
+use Prim.Native.Nat.{ℕ, _<_, _≤_}
+use mathlib.Core.Path.{_≡_}
+use mathlib.Core.List.{List, [], _++_, map}
+use lib.ListN.{length}
+use lib.Dec.{T}
+use Rattle.refusal.specs.Rules.{Coded, done, no}
+use Rattle.serial.specs.Serial.{inRange}
+use Rattle.interval.specs.Interval.{within}
+use Rattle.links.specs.Walk.{after}
+use Rattle.node.specs.declared.Link.the-variants.{To}
+use Rattle.protocol.specs.declared.Call.{Call}
+use Rattle.protocol.specs.declared.Call.the-variants.{Deliver}
+use Rattle.protocol.specs.State.{State, keyAt, rightAt, wellFormed}
+use Rattle.protocol.specs.History.{history}
+use Rattle.protocol.specs.Claim.{Inserted, delivered}
+use Rattle.protocol.specs.Questions.{Owner, ownerOf}
+use Rattle.protocol.specs.Drain.{places, deliverAll}
+
+-- ---- the owner of a serial
+-- u is inserted, and the serial is in [key, key of right link)
+pub record Owns (s : State) (serial u : ℕ) : Type 0 where
+  pub inserted : Inserted s u
+  pub next : ℕ
+  pub right : rightAt s u ≡ To next
+  pub holds : T (within (keyAt s u) (keyAt s next) serial)
+
+-- the answer is a node that so many hops from the start lead to, and it alone owns the serial
+pub record FindsOwner (s : State) (start serial : ℕ) (said : Coded Owner) : Type 0 where
+  pub owner : Owner
+  pub answer : said ≡ done owner
+  pub owns : Owns s serial (owner .node)
+  pub only : (u : ℕ) → Owns s serial u → u ≡ owner .node
+  pub reached : after (rightAt s) start (owner .hops) ≡ owner .node
+
+-- on a network that some list of calls makes, from an inserted start and for a serial in range
+abbrev pub OwnerClaim : Type 0
+OwnerClaim = (calls : List Call) (start serial : ℕ) → Inserted (history calls .state) start → T (inRange serial)
+    → FindsOwner (history calls .state) start serial (ownerOf (history calls .state) start serial)
+
+-- 31 "met only on a floor that no script makes"
+abbrev pub AlwaysFound : Type 0
+AlwaysFound = (calls : List Call) (start serial : ℕ) → ¬ (ownerOf (history calls .state) start serial ≡ no 31)
+
+-- ---- a drain
+-- with this budget: no more deliveries than the budget, none of them refused, and fewer only where nothing waits at the end
+pub record Drains (s : State) (budget : ℕ) : Type 0 where
+  pub within-budget : length (places budget s) ≤ budget
+  pub none-refused : delivered s (places budget s) ≡ length (places budget s)
+  pub to-the-end : length (places budget s) < budget → deliverAll s (places budget s) .messages ≡ []
+
+abbrev pub DrainClaim : Type 0
+DrainClaim = (s : State) → T (wellFormed s) → (budget : ℕ) → Drains s budget
+
+-- "A run-down counts as the deliveries it makes": it leads where the list of calls leads that has them at its end
+abbrev pub DrainIsCalls : Type 0
+DrainIsCalls = (calls : List Call) (budget : ℕ)
+    → deliverAll (history calls .state) (places budget (history calls .state)) ≡ history (calls ++ map Deliver (places budget (history calls .state))) .state
