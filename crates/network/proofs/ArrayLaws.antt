@@ -2,7 +2,7 @@
 -- network is what `held` makes of its own lists. So a call that is refused hands back the very network, and the calls on the arrays
 -- follow those on the lists step by step. Assumes nothing.
 use mathlib.Core.Path.{_≡_, refl}
-use mathlib.Core.Bool.{Bool, true, not, _&&_}
+use mathlib.Core.Bool.{Bool, true, false, not, _&&_}
 use mathlib.Core.List.{List, [], _∷_}
 use Prim.Native.Nat.{ℕ, zero, suc, _-_, _≤_}
 use native.Mathlib.Omega.{arith}
@@ -32,7 +32,7 @@ use Rattle.protocol.proofs.Facts.{formed as lists-formed}
 use Rattle.protocol.proofs.Lively.{steady}
 use Rattle.protocol.proofs.Theorem.{ring}
 use Rattle.network.specs.declared.Network.{Network}
-use Rattle.network.specs.Arrays.{vacantNode, vacantMessage, isVacantNode, isVacantMessage, live, wellFormed, filled, held, empty, refused, inArrays, applyOf, run}
+use Rattle.network.specs.Arrays.{vacantNode, vacantMessage, isVacantNode, isVacantMessage, live, wellFormed, filled, held, empty, refused, inArrays, applyOf, drainOf, run}
 
 -- ---- a list that is filled up with a blank
 module _ {A : Type 0} (blank : A) (test : A → Bool) where
@@ -140,6 +140,15 @@ held-live n nodes messages h =
       messages = refilled vacantMessage isVacantMessage vacant-message (n .messages) queueLimit (n .waiting) messages (w .few-messages) (w .vacant-messages) i;
       waiting = length-take-le (n .waiting) (n .messages) (omega arith) i;
     }
+
+-- ---- 6: a network that is not well formed comes back as it is
+pub malformed : (n : Network) (call : Call) → wellFormed n ≡ false → applyOf n call ≡ refused n 6
+unfolding applyOf
+malformed n call e = rw e
+
+pub malformed-drain : (n : Network) (budget : ℕ) → wellFormed n ≡ false → drainOf n budget ≡ refused n 6
+unfolding drainOf
+malformed-drain n budget e = rw e
 
 -- ---- so a refused call hands back the same network
 pub refused-same : (n : Network) (call : Call) (number : ℕ) → length (n .nodes) ≡ capacity → length (n .messages) ≡ queueLimit → wellFormed n ≡ true

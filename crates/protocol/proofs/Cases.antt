@@ -25,7 +25,7 @@ use Rattle.node.specs.declared.Kind.{Kind}
 use Rattle.node.specs.declared.Kind.the-variants.{SetR, SetRAck, SetRNak, SetL}
 use Rattle.node.specs.declared.Message.{Message}
 use Rattle.node.specs.Shape.{isOut, isInOrDel, capacity}
-use Rattle.node.specs.Actions.{Effect, target, seqOf, alone, leaveRules as leaveStepRules, grants, onSetR, onSetRAck, onSetRNak, onSetL, onKind}
+use Rattle.node.specs.Actions.{Effect, target, seqOf, alone, leaveRules as leaveStepRules, grants, onSetR, onSetRAck, onSetRNak, onSetL, onKind, actOf}
 use Rattle.node.proofs.ActionLaws.{tested-out, tested-in, tested-link, granted, create-accepted, join-accepted, leave-alone-accepted, leave-accepted, receive-accepted, join-granted, leave-granted}
 use Rattle.node.proofs.FitLaws.{NodeFits, message-facts, left-named, right-named, number-named, well-formed-among, deliverable-among}
 use Rattle.protocol.specs.declared.Call.{Call}
@@ -152,7 +152,7 @@ module _ (s : State) (v p : ℕ) (rest : List Message) where
     kind-case (SetL left n) room not-in = notice-case left n
 
 module _ (s : State) (w : WellFormed s) (m : Message) (waits : m ∈ s .messages) where
-  declared-addressee : m .to < length (s .nodes)
+  pub declared-addressee : m .to < length (s .nodes)
   declared-addressee = ltb-true (m .to) (length (s .nodes)) (message-facts (length (s .nodes)) m (w .message m waits) .to)
 
   -- an answer is its addressee's one dealing, and a node that is in has none
@@ -161,13 +161,18 @@ module _ (s : State) (w : WellFormed s) (m : Message) (waits : m ∈ s .messages
       let own : isDealingOf (m .to) m ≡ true = or-right (isRequest (m .kind) && eqb (m .sender) (m .to)) _ (rw answer (eq-eqb (m .to) (m .to) refl)) in
       omega (arith, count-in (isDealingOf (m .to)) waits own, w .dealing (m .to) declared-addressee, ap dealings is-in)
 
+  -- the addressee's own rules do not refuse it
+  pub received : receiving s m ≡ actOf (m .to) (nodeAt s (m .to)) (m .sender) (m .kind)
+  received =
+      let sound = well-formed-among (w .few-nodes) (m .to) declared-addressee (w .node (m .to) declared-addressee) in
+      let deliverable = deliverable-among (w .few-nodes) m (w .message m waits) in
+      receive-accepted (m .to) (nodeAt s (m .to)) m (rw (sound, deliverable), tt)
+
   receive-case : (rest : List Message) → (wouldGrant (nodeAt s (m .to)) (m .sender) (m .kind) ≡ true → length (s .messages) < queueLimit)
       → Act s m rest (commit s (m .to) rest (receiving s m))
   receive-case rest room =
       let fits = w .node (m .to) declared-addressee in
-      let sound = well-formed-among (w .few-nodes) (m .to) declared-addressee fits in
-      let deliverable = deliverable-among (w .few-nodes) m (w .message m waits) in
-      rw (receive-accepted (m .to) (nodeAt s (m .to)) m (rw (sound, deliverable), tt))
+      rw received
       (by-test (ActsBy s (m .sender) (m .to) rest (m .kind)) (isOut (statusAt s (m .to))) _ _
       (λ t. drops (tested-out (statusAt s (m .to)) t) (rw append-nil))
       (λ f. kind-case s (m .sender) (m .to) rest fits (λ o. not-both (ap isOut o) f) (m .kind) room answered-not-in))

@@ -2,7 +2,7 @@
 -- settles the call. Assumes nothing.
 use mathlib.Core.Path.{_≡_, refl, sym, ap, _∙_}
 use mathlib.Core.Bool.{Bool, true, false, cond}
-use mathlib.Core.List.{List, [], _∷_}
+use mathlib.Core.List.{List, [], _∷_, _++_}
 use mathlib.Core.Option.{none, some}
 use Prim.Native.Nat.{ℕ, _-_}
 use native.Mathlib.Omega.{arith}
@@ -58,6 +58,12 @@ module _ {B : Type 0} (rules : List Rule) {k : Check} (says : checked k ≡ firs
 
   pub on-clear : k ≡ Clear → accepted ≡ ruled rules refused accepted
   on-clear e = ap (λ o. settled o refused accepted) (ap checked (sym e) ∙ says)
+
+-- ---- rules after other rules
+pub first-append : (rules rest : List Rule) → first (rules ++ rest) ≡ settled (first rules) some (first rest)
+first-append [] rest = refl
+first-append ((n when true) ∷ rules) rest = refl
+first-append ((n when false) ∷ rules) rest = first-append rules rest
 
 -- ---- where no rule refuses, no condition of theirs holds
 abbrev pub Cleared : List Rule → Type 0

@@ -1,0 +1,53 @@
+-- What the arrays of a well-formed network hold in the places before the counts is what its lists hold, node by node and message by
+-- message: no count is above the length of its array, so each such place is one of both. Assumes nothing.
+use mathlib.Core.Path.{_≡_, refl, ap, _∙_}
+use mathlib.Core.Bool.{Bool, true}
+use mathlib.Core.List.{List, [], _∷_}
+use Prim.Native.Nat.{ℕ, zero, suc, _≤_, _<_}
+use native.Mathlib.Omega.{arith}
+use lib.ListN.{length, take, getD}
+use lib.Seq.{length-take-le, getD-take}
+use borrow.Author.Tests.{ltb-true}
+use Rattle.truth.specs.Tests.{every}
+use Rattle.truth.proofs.Laws.{both}
+use Rattle.truth.proofs.TestLaws.{all-pass}
+use Rattle.node.specs.declared.Link.the-variants.{To}
+use Rattle.node.specs.declared.Node.{Node}
+use Rattle.node.specs.Shape.{capacity, messageFits}
+use Rattle.node.proofs.FitLaws.{message-fits-more}
+use Rattle.protocol.specs.State.{nodeAt, rightAt}
+use Rattle.protocol.proofs.Facts.{WellFormed as ListsWellFormed, formed as lists-formed}
+use Rattle.network.specs.declared.Network.{Network}
+use Rattle.network.specs.Arrays.{vacantNode, live, wellFormed}
+use Rattle.network.proofs.Lengths.{Lengths}
+use Rattle.network.proofs.ArrayLaws.{formed}
+use Rattle.network.proofs.Places.{same-element}
+
+-- ---- the lists of a well-formed network
+module _ (n : Network) (l : Lengths n) (h : wellFormed n ≡ true) where
+  -- as long as the counts say
+  pub nodes-length : length (live n .nodes) ≡ n .count
+  nodes-length = let w = formed n h in length-take-le (n .count) (n .nodes) (omega arith)
+
+  pub messages-length : length (live n .messages) ≡ n .waiting
+  messages-length = let w = formed n h in length-take-le (n .waiting) (n .messages) (omega arith)
+
+  -- the node of a number is the one in its place
+  pub node-live : (u : ℕ) (d : Node) → u < n .count → nodeAt (live n) u ≡ getD (n .nodes) u d
+  node-live u d k =
+      let w = formed n h in
+      getD-take (n .count) (n .nodes) u vacantNode k ∙ same-element (n .nodes) u vacantNode d (omega arith)
+
+  lists : ListsWellFormed (live n)
+  lists = lists-formed (live n) (formed n h .lists)
+
+  -- each message that waits is of nodes that there can be
+  pub messages-fit : every (messageFits capacity) (take (n .waiting) (n .messages)) ≡ true
+  messages-fit = all-pass (messageFits capacity) (live n .messages) (λ m i. message-fits-more (lists .few-nodes) m (lists .message m i))
+
+  -- a right link names a node that is declared
+  pub right-declared : (u q : ℕ) (d : Node) → u < n .count → getD (n .nodes) u d .right ≡ To q → q < n .count
+  right-declared u q d k e =
+      let named : rightAt (live n) u ≡ To q = ap (λ (node : Node). node .right) (node-live u d k) ∙ e in
+      let fits = rw named at (lists .node u (rw nodes-length k) .right) in
+      rw nodes-length at (ltb-true q (length (live n .nodes)) fits)

@@ -1,0 +1,16 @@
+-- `network::Network::drain` meets its contract: 6 where the network is not well formed, and else the drain. Assumes nothing.
+use mathlib.Core.Path.{sym, _∙_}
+use borrow.Author.Needs.{needs}
+use borrow.Author.Tests.{not-true, not-false}
+use Rattle.network.proofs.ArrayLaws.{malformed-drain}
+use Rattle.network.proofs.Network.drain.Statement.{statement}
+use Rattle.network.proofs.Network.drain.Tie as tie
+
+returns : tie.Need-returns
+returns c = sym (malformed-drain _ _ (sym (c .before .is-well-formed .ensures) ∙ not-true _ (c .if1 .taken)))
+
+run-requires : tie.Need-run-requires
+run-requires c κs = sym (c .before .is-well-formed .ensures) ∙ not-false _ (c .if1 .left)
+
+pub drain-spec : {M : Type 1} → statement M
+drain-spec = tie.close (tie.spec (λ c κs. tt) returns run-requires (λ c. search needs))

@@ -1,0 +1,9 @@
+-- `network::shape::is_vacant_message` meets its contract: each test is a clause of the definition. Assumes nothing.
+use Rattle.network.proofs.shape.is_vacant_message.Statement.{statement}
+use Rattle.network.proofs.shape.is_vacant_message.Tie as tie
+
+returns : tie.Need-returns
+returns c = cc
+
+pub is-vacant-message-spec : {M : Type 1} → statement M
+is-vacant-message-spec = tie.close (tie.spec (λ c κs. tt) returns)
