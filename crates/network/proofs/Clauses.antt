@@ -21,7 +21,7 @@ use Rattle.protocol.specs.State.{queueLimit, keyIsNew, keyAt, isDealingOf, deal
 use Rattle.protocol.proofs.Moves.{unconcerned}
 use Rattle.network.specs.declared.Network.{Network}
 use Rattle.network.specs.Arrays.{vacantNode, vacantMessage, isVacantNode, isVacantMessage, live, wellFormed}
-use Rattle.network.specs.Changes.{everyPlace}
+use Rattle.network.specs.Walks.{everyPlace}
 use Rattle.network.proofs.Lengths.{Lengths}
 use Rattle.network.proofs.Places.{every-element, every-place, below-fewer}
 use Rattle.network.proofs.Dealings.{withinAllowed}

@@ -25,7 +25,7 @@ use Rattle.node.specs.Shape.{linkFits, messageFits}
 use Rattle.node.specs.Actions.{linksTo}
 use Rattle.node.proofs.FitLaws.{message-facts}
 use Rattle.protocol.specs.State.{isRequest, isAnswer, isDealingOf}
-use Rattle.network.specs.Changes.{dealerBy}
+use Rattle.network.specs.Walks.{dealerBy}
 use Rattle.network.proofs.Places.{count-longer}
 
 -- ---- whose dealing a message is, by its kind

@@ -4,11 +4,3 @@ pub mod Places
 pub mod Dealings
 pub mod Clauses
 pub mod LiveLaws
-pub mod InsertedLaws
-pub mod OwnerLaws
-pub mod Shift
-pub mod Stores
-pub mod StepLaws
-pub mod CallLaws
-pub mod DrainLaws
-pub mod Example

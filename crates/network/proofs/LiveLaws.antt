@@ -1,15 +1,13 @@
 -- What the arrays of a well-formed network hold in the places before the counts is what its lists hold, node by node and message by
 -- message: no count is above the length of its array, so each such place is one of both. Assumes nothing.
-use mathlib.Core.Path.{_≡_, refl, ap, _∙_}
-use mathlib.Core.Bool.{Bool, true}
-use mathlib.Core.List.{List, [], _∷_}
-use Prim.Native.Nat.{ℕ, zero, suc, _≤_, _<_}
+use mathlib.Core.Path.{_≡_, ap, _∙_}
+use mathlib.Core.Bool.{true}
+use Prim.Native.Nat.{ℕ, _<_}
 use native.Mathlib.Omega.{arith}
 use lib.ListN.{length, take, getD}
 use lib.Seq.{length-take-le, getD-take}
 use borrow.Author.Tests.{ltb-true}
 use Rattle.truth.specs.Tests.{every}
-use Rattle.truth.proofs.Laws.{both}
 use Rattle.truth.proofs.TestLaws.{all-pass}
 use Rattle.node.specs.declared.Link.the-variants.{To}
 use Rattle.node.specs.declared.Node.{Node}

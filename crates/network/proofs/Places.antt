@@ -14,7 +14,7 @@ use Rattle.truth.specs.Tests.{count, every, everyBelow}
 use Rattle.truth.proofs.TestLaws.{every-take, count-more, below-at, below-all, below-agree}
 use Rattle.node.specs.declared.Kind.the-variants.{SetR}
 use Rattle.node.specs.declared.Message.{Message}
-use Rattle.network.specs.Changes.{placeFits, everyPlace}
+use Rattle.network.specs.Walks.{placeFits, everyPlace}
 
 -- ---- reading and storing
 -- what a walk reads of messages past their end: zeros and the first kind

@@ -1,2 +1,2 @@
 pub mod Arrays
-pub mod Changes
+pub mod Walks

@@ -8,7 +8,7 @@ ghost use Rattle.truth.specs.Tests.{count, every, everyBelow};
 ghost use Rattle.node.specs.Shape.{isOut, linked, numbered, nodeFits, messageFits};
 ghost use Rattle.protocol.specs.State.{isNak, isDealingOf, dealings};
 ghost use Rattle.network.specs.Arrays.{vacantNode, vacantMessage, isVacantNode, isVacantMessage, wellFormed};
-ghost use Rattle.network.specs.Changes.{everyPlace, dealerBy};
+ghost use Rattle.network.specs.Walks.{everyPlace, dealerBy};
 use crate::Network;
 use node::Kind;
 use node::Link;
@@ -17,7 +17,7 @@ use node::Node;
 use node::Seq;
 use node::Status;
 
-pub fn is_out(status: Status) -> bool
+fn is_out(status: Status) -> bool
     ensures { λ r. ⌜ r ≡ isOut status ⌝ }
 {
     match status {
@@ -128,7 +128,7 @@ fn message_places_fit(messages: [Message; 64], waiting: usize, count: u8) -> boo
     ok
 }
 
-pub fn keys_of(nodes: [Node; 32]) -> [u32; 32]
+fn keys_of(nodes: [Node; 32]) -> [u32; 32]
     ensures { λ r. ⌜ ((u : ℕ) → u < 32 → getD r u 0 ≡ getD nodes u vacantNode .key) ⌝ }
 {
     let mut keys = [0u32; 32];
@@ -142,7 +142,7 @@ pub fn keys_of(nodes: [Node; 32]) -> [u32; 32]
 }
 
 // Whether the first `n` keys differ from this one.
-pub fn key_is_new(keys: &[u32; 32], n: usize, key: u32) -> bool
+fn key_is_new(keys: &[u32; 32], n: usize, key: u32) -> bool
     requires { ⌜ n ≤ 32 ⌝ }
     ensures { λ r. ⌜ r ≡ everyBelow n (λ v. not (eqb (getD (now (keys .entry)) v 0) key)) ⌝ }
 {

@@ -11,7 +11,7 @@ use lib.ListN.{length, getD, length-set}
 use Rattle.node.specs.declared.Link.the-variants.{To}
 use Rattle.node.specs.declared.Message.{Message}
 use Rattle.node.specs.Shape.{linkFits, messageFits}
-use Rattle.network.specs.Changes.{dealerBy}
+use Rattle.network.specs.Walks.{dealerBy}
 use Rattle.network.proofs.Places.{zeroMessage, element-passes}
 use Rattle.network.proofs.Dealings.{dealer-fits, Spent, nothing-spent, none-spent, one-spent, one-too-many, all-within}
 use Rattle.network.proofs.shape.dealings_fit.Statement.{statement}

@@ -10,7 +10,7 @@ use lib.ListN.{length}
 use Rattle.truth.specs.Tests.{everyBelow}
 use Rattle.node.specs.Shape.{messageFits}
 use Rattle.network.specs.Arrays.{vacantMessage, isVacantMessage}
-use Rattle.network.specs.Changes.{placeFits}
+use Rattle.network.specs.Walks.{placeFits}
 use Rattle.network.proofs.Places.{zeroMessage, same-element}
 use Rattle.network.proofs.shape.message_places_fit.Statement.{statement}
 use Rattle.network.proofs.shape.message_places_fit.Tie as tie

@@ -11,7 +11,7 @@ use Rattle.truth.specs.Tests.{everyBelow}
 use Rattle.sequence.specs.Sequence.{firstSeq}
 use Rattle.node.specs.Shape.{nodeFits}
 use Rattle.network.specs.Arrays.{vacantNode, isVacantNode}
-use Rattle.network.specs.Changes.{placeFits}
+use Rattle.network.specs.Walks.{placeFits}
 use Rattle.network.proofs.shape.node_places_fit.Statement.{statement}
 use Rattle.network.proofs.shape.node_places_fit.Tie as tie
 

@@ -1,0 +1,78 @@
+-- A drain step by step: what is still to be delivered leads where the whole drain leads, and with what was made it counts as many. Each
+-- delivery at the lowest place keeps that. Assumes nothing.
+use mathlib.Core.Path.{_≡_, sym, ap, _∙_}
+use mathlib.Core.Bool.{true}
+use mathlib.Core.List.{List, [], _∷_}
+use mathlib.Core.Option.{some}
+use Prim.Native.Nat.{ℕ, suc, _+_, _-_, _≤_, _<_}
+use native.Mathlib.Omega.{arith}
+use lib.ListN.{length, length-append, length-replicate}
+use Rattle.truth.proofs.TestLaws.{holds, is-true}
+use Rattle.refusal.specs.Rules.{done}
+use Rattle.node.specs.Shape.{capacity}
+use Rattle.protocol.specs.declared.Call.the-variants.{Deliver}
+use Rattle.protocol.specs.State.{State, queueLimit, wellFormed as listsAreWellFormed}
+use Rattle.protocol.specs.Drain.{lowest, afterDelivery, places, deliverAll, drainOf as drainLists}
+use Rattle.protocol.proofs.Facts.{formed as lists-formed}
+use Rattle.protocol.proofs.Lively.{steady}
+use Rattle.protocol.proofs.Drains.{places-next}
+use Rattle.network.specs.declared.Network.{Network}
+use Rattle.network.specs.Arrays.{vacantNode, vacantMessage, live, wellFormed, filled, held}
+use Rattle.calls.specs.Outcomes.{applyOf, drainOf}
+use Rattle.network.proofs.Lengths.{Lengths}
+use Rattle.network.proofs.ArrayLaws.{formed, live-held, held-well-formed}
+use Rattle.network.proofs.LiveLaws.{messages-length}
+use Rattle.calls.proofs.CallLaws.{same}
+
+-- ---- the arrays that hold well-formed lists
+filled-length : {A : Type 0} (n : ℕ) (blank : A) (l : List A) → length l ≤ n → length (filled n blank l) ≡ n
+filled-length n blank l few = simp (length-append, length-replicate) (omega arith)
+
+held-lengths : (s : State) → listsAreWellFormed s ≡ true → Lengths (held s)
+held-lengths s h =
+    let w = lists-formed s h in
+    record { nodes = filled-length capacity vacantNode (s .nodes) (w .few-nodes); messages = filled-length queueLimit vacantMessage (s .messages) (w .few-messages) }
+
+-- ---- a drain that has made some of its deliveries
+pub record Underway (start : Network) (budget : ℕ) (n : Network) (made : ℕ) : Type 0 where
+  pub arrays : Lengths n
+  pub well-formed : wellFormed n ≡ true
+  pub spent : made ≤ budget
+  pub ends : deliverAll (live n) (places (budget - made) (live n)) ≡ deliverAll (live start) (places budget (live start))
+  pub counts : made + length (places (budget - made) (live n)) ≡ length (places budget (live start))
+
+pub begins : (n : Network) (budget : ℕ) → Lengths n → wellFormed n ≡ true → Underway n budget n 0
+begins n budget l h =
+    let all : budget - 0 ≡ budget = omega arith in
+    record { arrays = l; well-formed = h; spent = omega arith; ends = rw all; counts = rw all (omega arith) }
+
+module _ {start : Network} {budget : ℕ} {n : Network} {made : ℕ} (u : Underway start budget n made) where
+  -- one delivery more
+  pub goes-on : (place : ℕ) (m : Network) → made < budget → lowest (live n) ≡ some place → m ≡ applyOf n (Deliver place) .network → Underway start budget m (made + 1)
+  unfolding applyOf
+  goes-on place m left at e =
+      let next = afterDelivery (live n) place in
+      let kept : listsAreWellFormed next ≡ true = is-true _ (steady (live n) (holds (formed n (u .well-formed) .lists)) .kept (Deliver place)) in
+      let arrays : m ≡ held next = e ∙ rw (u .well-formed) in
+      let lists : live m ≡ next = ap live arrays ∙ live-held next in
+      let one : budget - made ≡ suc (budget - (made + 1)) = omega arith in
+      let first : places (budget - made) (live n) ≡ place ∷ places (budget - (made + 1)) next = ap (λ k. places k (live n)) one ∙ places-next (budget - (made + 1)) (live n) place at in
+      record {
+        arrays = rw arrays (held-lengths next kept);
+        well-formed = rw arrays (held-well-formed next kept);
+        spent = omega arith;
+        ends = rw lists (ap (deliverAll (live n)) (sym first) ∙ u .ends);
+        counts = rw lists (omega (arith, u .counts, ap length first));
+      }
+
+  -- nothing more to be delivered
+  pub finished : wellFormed start ≡ true → places (budget - made) (live n) ≡ []
+      → record { network = n; said = done (record { made = made; left = n .waiting }) } ≡ drainOf start budget
+  unfolding drainOf drainLists
+  finished h none-left =
+      let end : live n ≡ deliverAll (live start) (places budget (live start)) = ap (deliverAll (live n)) (sym none-left) ∙ u .ends in
+      let all : made ≡ length (places budget (live start)) = omega (arith, u .counts, ap length none-left) in
+      let network : n ≡ held (deliverAll (live start) (places budget (live start))) = sym (same n (u .arrays) (u .well-formed)) ∙ ap held end in
+      let left : n .waiting ≡ length (deliverAll (live start) (places budget (live start)) .messages) =
+      sym (messages-length n (u .arrays) (u .well-formed)) ∙ ap (λ (s : State). length (s .messages)) end in
+      rw (h, formed start h .lists) (λ i. record { network = network i; said = done (record { made = all i; left = left i }) })

@@ -1,0 +1,87 @@
+-- What the functions write into the arrays, as the lists have it: a node in its place, one node more, a message taken out, messages at
+-- the end. Each is said of arrays that hold given lists, and comes to arrays that hold the lists so changed. Assumes nothing.
+use mathlib.Core.Path.{_≡_, sym, ap, _∙_}
+use mathlib.Core.List.{List, [], _∷_, _++_, append-assoc, append-nil}
+use Prim.Native.Nat.{ℕ, suc, _+_, _-_, _≤_, _<_}
+use native.Mathlib.Omega.{arith}
+use lib.ListN.{length, set, replicate, length-append, length-set}
+use lib.Seq.{set-append-left, set-append-seam, take-append-seam, drop-append-seam}
+use Rattle.node.specs.declared.Node.{Node}
+use Rattle.node.specs.declared.Message.{Message}
+use Rattle.node.specs.Shape.{capacity}
+use Rattle.node.specs.Actions.{Effect}
+use Rattle.protocol.specs.State.{State, queueLimit}
+use Rattle.protocol.specs.Calls.{without, commit}
+use Rattle.network.specs.Arrays.{vacantNode, vacantMessage, filled, held}
+use Rattle.calls.specs.Outcomes.{inArrays}
+use Rattle.calls.specs.Changes.{placed, added, closed, posted, allPosted, committed}
+use Rattle.calls.proofs.Shift.{length-without}
+
+-- ---- a list that is filled up with a blank
+module _ {A : Type 0} (n : ℕ) (blank : A) where
+  blanks-from : (k : ℕ) → k < n → replicate (n - k) blank ≡ blank ∷ replicate (n - suc k) blank
+  blanks-from k l = let e : n - k ≡ suc (n - suc k) = omega arith in rw e
+
+  filled-set : (l : List A) (i : ℕ) (a : A) → i < length l → set (filled n blank l) i a ≡ filled n blank (set l i a)
+  filled-set l i a k = rw (set-append-left l _ i a k, length-set)
+
+  filled-more : (l : List A) (a : A) → length l < n → set (filled n blank l) (length l) a ≡ filled n blank (l ++ (a ∷ []))
+  filled-more l a k =
+      let one-more : n - length (l ++ (a ∷ [])) ≡ n - suc (length l) = simp length-append (omega arith) in
+      rw (blanks-from (length l) k, set-append-seam, one-more, append-assoc)
+
+  -- one element less, and a blank more
+  filled-less : (l m : List A) → length l ≡ suc (length m) → length l ≤ n → m ++ blank ∷ replicate (n - length l) blank ≡ filled n blank m
+  filled-less l m e k =
+      let one-less : n - length m ≡ suc (n - length l) = omega arith in
+      rw one-less
+
+-- ---- the changes
+module _ (s : State) where
+  placed-held : (u : ℕ) (node : Node) → u < length (s .nodes) → placed (held s) u node ≡ held (record { nodes = set (s .nodes) u node; messages = s .messages })
+  placed-held u node k = λ i. record {
+    nodes = filled-set capacity vacantNode (s .nodes) u node k i;
+    count = sym (length-set (s .nodes) u node) i;
+    messages = filled queueLimit vacantMessage (s .messages);
+    waiting = length (s .messages);
+  }
+
+  pub added-held : (node : Node) → length (s .nodes) < capacity → added (held s) node ≡ held (record { nodes = s .nodes ++ (node ∷ []); messages = s .messages })
+  added-held node k = λ i. record {
+    nodes = filled-more capacity vacantNode (s .nodes) node k i;
+    count = sym (length-append (s .nodes) (node ∷ [])) i;
+    messages = filled queueLimit vacantMessage (s .messages);
+    waiting = length (s .messages);
+  }
+
+  posted-held : (m : Message) → length (s .messages) < queueLimit → posted (held s) m ≡ held (record { nodes = s .nodes; messages = s .messages ++ (m ∷ []) })
+  posted-held m k = λ i. record {
+    nodes = filled capacity vacantNode (s .nodes);
+    count = length (s .nodes);
+    messages = filled-more queueLimit vacantMessage (s .messages) m k i;
+    waiting = sym (length-append (s .messages) (m ∷ [])) i;
+  }
+
+  pub closed-held : (place : ℕ) → place < length (s .messages) → length (s .messages) ≤ queueLimit
+      → closed (held s) place ≡ held (record { nodes = s .nodes; messages = without place (s .messages) })
+  closed-held place k few =
+      let one-less : length (s .messages) - 1 ≡ length (without place (s .messages)) = omega (arith, length-without place (s .messages) k) in
+      let shifted : closed (held s) place .messages ≡ filled queueLimit vacantMessage (without place (s .messages)) =
+      rw (take-append-seam, drop-append-seam) (filled-less queueLimit vacantMessage (s .messages) (without place (s .messages)) (length-without place (s .messages) k) few) in
+      λ i. record { nodes = filled capacity vacantNode (s .nodes); count = length (s .nodes); messages = shifted i; waiting = one-less i }
+
+pub all-posted-held : (nodes : List Node) (ms posts : List Message) → length ms + length posts ≤ queueLimit
+    → allPosted (held (record { nodes = nodes; messages = ms })) posts ≡ held (record { nodes = nodes; messages = ms ++ posts })
+all-posted-held nodes ms [] k = rw append-nil
+all-posted-held nodes ms (m ∷ posts) k =
+    ap (λ n. allPosted n posts) (posted-held (record { nodes = nodes; messages = ms }) m (omega arith))
+    ∙ all-posted-held nodes (ms ++ (m ∷ [])) posts (rw length-append (omega arith))
+    ∙ ap (λ messages. held (record { nodes = nodes; messages = messages })) (append-assoc ms (m ∷ []) posts)
+
+-- ---- a step: the node in its place, and its posts at the end
+pub committed-held : (s : State) (rest : List Message) (u : ℕ) (e : Effect) → u < length (s .nodes) → length rest + length (e .posts) ≤ queueLimit
+    → committed (held (record { nodes = s .nodes; messages = rest })) u e ≡ inArrays (commit s u rest e)
+committed-held s rest u e k room =
+    let placed-there = placed-held (record { nodes = s .nodes; messages = rest }) u (e .node) k in
+    let network = ap (λ n. allPosted n (e .posts)) placed-there ∙ all-posted-held (set (s .nodes) u (e .node)) rest (e .posts) room in
+    λ i. record { network = network i; said = inArrays (commit s u rest e) .said }

@@ -1,0 +1,56 @@
+-- What the calls write into a network's arrays: a node in its place, one node more, messages at the end, a gap closed; and how the code comes
+-- to a refusal after a node's step. What these make of the lists that the arrays hold is proved in `proofs/`. Definitions only.
+use Prim.Native.Nat.{ℕ, _+_, _-_}
+use mathlib.Core.List.{List, [], _∷_, _++_}
+use mathlib.Core.Bool.{not}
+use mathlib.Core.Option.{Option, some}
+use lib.ListN.{length, set, take, drop}
+use lib.Dec.{leb}
+use Rattle.refusal.specs.Rules.{Coded, done, no, Rule, _when_}
+use Rattle.node.specs.declared.Node.{Node}
+use Rattle.node.specs.declared.Message.{Message}
+use Rattle.node.specs.Actions.{Effect}
+use Rattle.protocol.specs.declared.Reply.{Reply}
+use Rattle.protocol.specs.State.{queueLimit}
+use Rattle.protocol.specs.Calls.{stepped, without}
+use Rattle.network.specs.declared.Network.{Network}
+use Rattle.network.specs.Arrays.{vacantMessage}
+use Rattle.calls.specs.Outcomes.{Applied}
+
+-- node u as it is now
+abbrev pub placed : Network → ℕ → Node → Network
+placed n u node = record { nodes = set (n .nodes) u node; count = n .count; messages = n .messages; waiting = n .waiting }
+
+-- one node more
+abbrev pub added : Network → Node → Network
+added n node = record { nodes = set (n .nodes) (n .count) node; count = n .count + 1; messages = n .messages; waiting = n .waiting }
+
+-- the message at a place taken out, "closes the gap"
+abbrev pub closed : Network → ℕ → Network
+closed n place = record {
+  nodes = n .nodes;
+  count = n .count;
+  messages = without place (take (n .waiting) (n .messages)) ++ vacantMessage ∷ drop (n .waiting) (n .messages);
+  waiting = n .waiting - 1;
+}
+
+-- one message more, and several in their order
+abbrev pub posted : Network → Message → Network
+posted n m = record { nodes = n .nodes; count = n .count; messages = set (n .messages) (n .waiting) m; waiting = n .waiting + 1 }
+
+abbrev pub allPosted : Network → List Message → Network
+allPosted n [] = n
+allPosted n (m ∷ ms) = allPosted (posted n m) ms
+
+-- node u has made a step
+abbrev pub committed : Network → ℕ → Effect → Applied Reply
+committed n u e = record { network = allPosted (placed n u (e .node)) (e .posts); said = stepped (e .said) }
+
+-- ---- how the code comes to a refusal after a node's step: what the step refuses, and else what the rest says
+abbrev pub afterStep : {A : Type 0} → Coded A → Option ℕ → Option ℕ
+afterStep (done a) rest = rest
+afterStep (no n) rest = some n
+
+-- 28 "64 messages wait": the posts find no room after so many messages
+abbrev pub roomRules : ℕ → List Message → List Rule
+roomRules waiting posts = (28 when not (leb (waiting + length posts) queueLimit)) ∷ []

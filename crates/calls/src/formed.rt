@@ -1,0 +1,334 @@
+// The calls on a network that is known to be well formed: their refusals but 6, and what they do.
+ghost use mathlib.Core.Path.{_≡_};
+ghost use mathlib.Core.Bool.{true, not};
+ghost use Prim.Native.Nat.{_+_, _<_, _≤_};
+ghost use lib.ListN.{length, getD, take};
+ghost use lib.Dec.{leb, eqb};
+ghost use Rattle.truth.specs.Tests.{everyBelow, any};
+ghost use Rattle.refusal.specs.Code.{code};
+ghost use Rattle.refusal.specs.Rules.{first, checked};
+ghost use Rattle.node.specs.Shape.{isOut};
+ghost use Rattle.node.specs.Actions.{effect, coded, posted as listed};
+ghost use Rattle.protocol.specs.declared.Call.the-variants.{Declare, Create, Join, Leave, Deliver};
+ghost use Rattle.protocol.specs.State.{isNotice, isNoticeTo};
+ghost use Rattle.protocol.specs.Calls.{stepped, declareRules, createRules, peerAt, messageAt, receiving, applyOf as applyToLists};
+ghost use Rattle.protocol.specs.History.{accepted};
+ghost use Rattle.network.specs.Arrays.{vacantNode, live, wellFormed};
+ghost use Rattle.calls.specs.Outcomes.{answered, called, refused, applyOf};
+ghost use Rattle.calls.specs.Changes.{committed, afterStep, roomRules};
+use crate::Answer;
+use crate::Called;
+use crate::store;
+use network::Network;
+use node::Kind;
+use node::Message;
+use node::Node;
+use node::Peer;
+use node::Posts;
+use node::Status;
+use node::Step;
+use node::Verdict;
+use protocol::Reply;
+use refusal::Check;
+use refusal::Refusal;
+
+pub fn refuse(network: Network, refusal: Refusal) -> Called
+    ensures { λ r. ⌜ called r ≡ refused network (code refusal) ⌝ }
+{
+    Called {
+        network,
+        answer: Answer::Refused(refusal),
+    }
+}
+
+fn answer_of(verdict: Verdict) -> Answer
+    ensures { λ r. ⌜ answered r ≡ stepped (coded verdict) ⌝ }
+{
+    match verdict {
+        Verdict::Done(outcome) => Answer::Done(Reply::Stepped(outcome)),
+        Verdict::Refused(refusal) => Answer::Refused(refusal),
+    }
+}
+
+// Node `number` has made a step: it stands in its place as the step leaves it, and the step's posts are added at the end.
+fn commit(network: Network, number: u8, step: Step) -> Called
+    requires { ⌜ (number < 32) × (network .waiting + length (listed (step .posts)) ≤ 64) ⌝ }
+    ensures { λ r. ⌜ called r ≡ committed network number (effect step) ⌝ }
+{
+    let node = step.node;
+    let posts = step.posts;
+    let verdict = step.verdict;
+    Called {
+        network: store::post_all(store::place(network, number, node), posts),
+        answer: answer_of(verdict),
+    }
+}
+
+fn length_of(posts: Posts) -> u8
+    ensures { λ r. ⌜ r ≡ length (listed posts) ⌝ }
+{
+    match posts {
+        Posts::Nothing => 0,
+        Posts::One(_) => 1,
+        Posts::Two(_, _) => 2,
+    }
+}
+
+// Whether a step's posts find room after so many messages.
+fn has_room(waiting: u8, posts: Posts) -> bool
+    requires { ⌜ waiting ≤ 64 ⌝ }
+    ensures { λ r. ⌜ r ≡ leb (waiting + length (listed posts)) 64 ⌝ }
+{
+    waiting + length_of(posts) <= 64
+}
+
+fn is_out(status: Status) -> bool
+    ensures { λ r. ⌜ r ≡ isOut status ⌝ }
+{
+    match status {
+        Status::Out => true,
+        Status::Ins => false,
+        Status::In => false,
+        Status::Del => false,
+    }
+}
+
+fn all_out(nodes: [Node; 32], count: usize) -> bool
+    requires { ⌜ count ≤ 32 ⌝ }
+    ensures { λ r. ⌜ r ≡ everyBelow count (λ u. isOut (getD nodes u vacantNode .status)) ⌝ }
+{
+    let mut ok = true;
+    let mut i: usize = 0;
+    while i < count {
+        let node = nodes[i];
+        let status = node.status;
+        ok = ok & is_out(status);
+        i += 1;
+    }
+    ok
+}
+
+// Whether no node has this key.
+fn key_is_new(nodes: [Node; 32], count: usize, key: u32) -> bool
+    requires { ⌜ count ≤ 32 ⌝ }
+    ensures { λ r. ⌜ r ≡ everyBelow count (λ u. not (eqb (getD nodes u vacantNode .key) key)) ⌝ }
+{
+    let mut ok = true;
+    let mut i: usize = 0;
+    while i < count {
+        let node = nodes[i];
+        ok = ok & (node.key != key);
+        i += 1;
+    }
+    ok
+}
+
+fn is_notice(kind: Kind) -> bool
+    ensures { λ r. ⌜ r ≡ isNotice kind ⌝ }
+{
+    match kind {
+        Kind::SetR {
+            new: _,
+            expected: _,
+            number: _,
+        } => false,
+        Kind::SetRAck { number: _ } => false,
+        Kind::SetRNak => false,
+        Kind::SetL { left: _, number: _ } => true,
+    }
+}
+
+fn notice_waits(messages: [Message; 64], waiting: usize, node: u8) -> bool
+    requires { ⌜ waiting ≤ 64 ⌝ }
+    ensures { λ r. ⌜ r ≡ any (isNoticeTo node) (take waiting messages) ⌝ }
+{
+    let mut found = false;
+    let mut i: usize = 0;
+    while i < waiting {
+        let message = messages[i];
+        let kind = message.kind;
+        found = found | (is_notice(kind) & (message.to == node));
+        i += 1;
+    }
+    found
+}
+
+fn check_declare(network: Network, key: u32) -> Check
+    requires { ⌜ wellFormed network ≡ true ⌝ }
+    ensures { λ r. ⌜ checked r ≡ first (declareRules (live network) key) ⌝ }
+{
+    let nodes = network.nodes;
+    let count = network.count;
+    refusal::rule(
+        !serial::in_range(key),
+        Refusal::SerialTooLarge,
+        refusal::rule(
+            !(count < 32),
+            Refusal::NetworkFull,
+            refusal::rule(
+                !key_is_new(nodes, count as usize, key),
+                Refusal::KeyTaken,
+                Check::Clear,
+            ),
+        ),
+    )
+}
+
+pub fn declare(network: Network, key: u32) -> Called
+    requires { ⌜ wellFormed network ≡ true ⌝ }
+    ensures { λ r. ⌜ called r ≡ applyOf network (Declare key) ⌝ }
+{
+    match check_declare(network, key) {
+        Check::Refuse(refusal) => refuse(network, refusal),
+        Check::Clear => Called {
+            network: store::add(network, Node::declared(key)),
+            answer: Answer::Done(Reply::Declared {
+                number: network.count,
+                key,
+            }),
+        },
+    }
+}
+
+fn check_create(network: Network, node: u8) -> Check
+    requires { ⌜ wellFormed network ≡ true ⌝ }
+    ensures { λ r. ⌜ checked r ≡ first (createRules (live network) node) ⌝ }
+{
+    let nodes = network.nodes;
+    let messages = network.messages;
+    let count = network.count as usize;
+    let waiting = network.waiting as usize;
+    refusal::rule(
+        !(node < network.count),
+        Refusal::Undeclared,
+        refusal::rule(
+            !all_out(nodes, count),
+            Refusal::NotAllOut,
+            refusal::rule(
+                notice_waits(messages, waiting, node),
+                Refusal::NoticeWaiting,
+                Check::Clear,
+            ),
+        ),
+    )
+}
+
+pub fn create(network: Network, number: u8) -> Called
+    requires { ⌜ wellFormed network ≡ true ⌝ }
+    ensures { λ r. ⌜ called r ≡ applyOf network (Create number) ⌝ }
+{
+    match check_create(network, number) {
+        Check::Refuse(refusal) => refuse(network, refusal),
+        Check::Clear => {
+            let node = network.nodes[number as usize];
+            commit(network, number, node.create(number))
+        }
+    }
+}
+
+fn peer(network: Network, number: u8) -> Peer
+    requires { ⌜ (wellFormed network ≡ true) × (number < network .count) ⌝ }
+    ensures { λ r. ⌜ r ≡ peerAt (live network) number ⌝ }
+{
+    let node = network.nodes[number as usize];
+    Peer {
+        number,
+        key: node.key,
+    }
+}
+
+// The rules of the node's own step come first, and then the network's.
+fn after_step(verdict: Verdict, rest: Check) -> Check
+    ensures { λ r. ⌜ checked r ≡ afterStep (coded verdict) (checked rest) ⌝ }
+{
+    match verdict {
+        Verdict::Done(_) => rest,
+        Verdict::Refused(refusal) => Check::Refuse(refusal),
+    }
+}
+
+fn check_room(waiting: u8, posts: Posts) -> Check
+    requires { ⌜ waiting ≤ 64 ⌝ }
+    ensures { λ r. ⌜ checked r ≡ first (roomRules waiting (listed posts)) ⌝ }
+{
+    refusal::rule(!has_room(waiting, posts), Refusal::QueueFull, Check::Clear)
+}
+
+pub fn join(network: Network, number: u8, left: u8, right: u8) -> Called
+    requires { ⌜ wellFormed network ≡ true ⌝ }
+    ensures { λ r. ⌜ called r ≡ applyOf network (Join number left right) ⌝ }
+{
+    let count = network.count;
+    let waiting = network.waiting;
+    if !((number < count) & ((left < count) & (right < count))) {
+        return refuse(network, Refusal::Undeclared);
+    }
+    let node = network.nodes[number as usize];
+    let step = node.join(number, peer(network, left), peer(network, right));
+    let verdict = step.verdict;
+    let posts = step.posts;
+    let messages = network.messages;
+    let notice = refusal::rule(
+        notice_waits(messages, waiting as usize, number),
+        Refusal::NoticeWaiting,
+        check_room(waiting, posts),
+    );
+    match after_step(verdict, notice) {
+        Check::Refuse(refusal) => refuse(network, refusal),
+        Check::Clear => commit(network, number, step),
+    }
+}
+
+pub fn leave(network: Network, number: u8) -> Called
+    requires { ⌜ wellFormed network ≡ true ⌝ }
+    ensures { λ r. ⌜ called r ≡ applyOf network (Leave number) ⌝ }
+{
+    if network.count <= number {
+        return refuse(network, Refusal::Undeclared);
+    }
+    let node = network.nodes[number as usize];
+    let step = node.leave(number);
+    let verdict = step.verdict;
+    let posts = step.posts;
+    match after_step(verdict, check_room(network.waiting, posts)) {
+        Check::Refuse(refusal) => refuse(network, refusal),
+        Check::Clear => commit(network, number, step),
+    }
+}
+
+// What the node does with the message at a place that is for it.
+fn receive(network: Network, place: u8) -> Step
+    requires { ⌜ (wellFormed network ≡ true) × (place < network .waiting) ⌝ }
+    ensures { λ r. ⌜ effect r ≡ receiving (live network) (messageAt (live network) place) ⌝ }
+{
+    let message = network.messages[place as usize];
+    let to = message.to;
+    let node = network.nodes[to as usize];
+    node.receive(to, message)
+}
+
+// Whether a delivery at a place where a message waits is not refused: its posts find room where the message stood.
+pub fn delivers(network: Network, place: u8) -> bool
+    requires { ⌜ (wellFormed network ≡ true) × (place < network .waiting) ⌝ }
+    ensures { λ r. ⌜ r ≡ accepted (applyToLists (live network) (Deliver place) .said) ⌝ }
+{
+    let step = receive(network, place);
+    let posts = step.posts;
+    has_room(network.waiting - 1, posts)
+}
+
+pub fn deliver(network: Network, place: u8) -> Called
+    requires { ⌜ wellFormed network ≡ true ⌝ }
+    ensures { λ r. ⌜ called r ≡ applyOf network (Deliver place) ⌝ }
+{
+    if network.waiting <= place {
+        return refuse(network, Refusal::NoMessage);
+    }
+    let message = network.messages[place as usize];
+    let step = receive(network, place);
+    let posts = step.posts;
+    match check_room(network.waiting - 1, posts) {
+        Check::Refuse(refusal) => refuse(network, refusal),
+        Check::Clear => commit(store::close(network, place), message.to, step),
+    }
+}

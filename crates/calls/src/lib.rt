@@ -1,0 +1,95 @@
+// The calls on a network by value, and a drain. Each is handed any network and hands one back; it tests the network first, and refuses 6
+// there. Each contract is an equation with the rules of the crate `protocol` on the lists that the network's arrays hold.
+ghost use mathlib.Core.Path.{_≡_};
+ghost use Rattle.protocol.specs.declared.Call.the-variants.{Declare, Create, Join, Leave, Deliver};
+ghost use Rattle.calls.specs.Outcomes.{called, applyOf, drained, drainOf};
+use network::Network;
+use protocol::Call;
+use protocol::Reply;
+use refusal::Refusal;
+
+mod draining;
+mod formed;
+mod store;
+
+// What a call answers: its reply, or why it was refused.
+pub enum Answer {
+    Done(Reply),
+    Refused(Refusal),
+}
+
+// What a call hands back: the network as it leaves it, and its answer.
+pub struct Called {
+    pub network: Network,
+    pub answer: Answer,
+}
+
+// What a drain answers: the deliveries made and the messages left, or why it was refused.
+pub enum DrainAnswer {
+    Ran { made: u16, left: u8 },
+    Refused(Refusal),
+}
+
+// What a drain hands back.
+pub struct Drained {
+    pub network: Network,
+    pub answer: DrainAnswer,
+}
+
+// Any call.
+pub fn apply(network: Network, call: Call) -> Called
+    ensures { λ r. ⌜ called r ≡ applyOf network call ⌝ }
+{
+    if !network.is_well_formed() {
+        return formed::refuse(network, Refusal::Malformed);
+    }
+    match call {
+        Call::Declare(key) => formed::declare(network, key),
+        Call::Create(node) => formed::create(network, node),
+        Call::Join { node, left, right } => formed::join(network, node, left, right),
+        Call::Leave(node) => formed::leave(network, node),
+        Call::Deliver(place) => formed::deliver(network, place),
+    }
+}
+
+pub fn declare(network: Network, key: u32) -> Called
+    ensures { λ r. ⌜ called r ≡ applyOf network (Declare key) ⌝ }
+{
+    apply(network, Call::Declare(key))
+}
+
+pub fn create(network: Network, node: u8) -> Called
+    ensures { λ r. ⌜ called r ≡ applyOf network (Create node) ⌝ }
+{
+    apply(network, Call::Create(node))
+}
+
+pub fn join(network: Network, node: u8, left: u8, right: u8) -> Called
+    ensures { λ r. ⌜ called r ≡ applyOf network (Join node left right) ⌝ }
+{
+    apply(network, Call::Join { node, left, right })
+}
+
+pub fn leave(network: Network, node: u8) -> Called
+    ensures { λ r. ⌜ called r ≡ applyOf network (Leave node) ⌝ }
+{
+    apply(network, Call::Leave(node))
+}
+
+pub fn deliver(network: Network, place: u8) -> Called
+    ensures { λ r. ⌜ called r ≡ applyOf network (Deliver place) ⌝ }
+{
+    apply(network, Call::Deliver(place))
+}
+
+pub fn drain(network: Network, budget: u16) -> Drained
+    ensures { λ r. ⌜ drained r ≡ drainOf network budget ⌝ }
+{
+    if !network.is_well_formed() {
+        return Drained {
+            network,
+            answer: DrainAnswer::Refused(Refusal::Malformed),
+        };
+    }
+    draining::run(network, budget)
+}

@@ -1,0 +1,27 @@
+-- What the walks of the well-formedness test compute: a test of every place of an array, and whose dealing a message is. That they come to
+-- the clauses of well-formedness is proved in `proofs/`. Definitions only.
+use Prim.Native.Nat.{ℕ}
+use mathlib.Core.List.{List}
+use mathlib.Core.Bool.{Bool, cond}
+use lib.ListN.{length, getD}
+use lib.Dec.{ltb}
+use Rattle.truth.specs.Tests.{everyBelow}
+use Rattle.node.specs.declared.Link.{Link}
+use Rattle.node.specs.declared.Link.the-variants.{Unlinked, To}
+use Rattle.node.specs.declared.Kind.{Kind}
+use Rattle.node.specs.declared.Kind.the-variants.{SetR, SetRAck, SetRNak, SetL}
+use Rattle.node.specs.declared.Message.{Message}
+
+-- a place of an array l that holds n things: before n it passes one test, and past it another
+abbrev pub placeFits : {A : Type 0} → (A → Bool) → (A → Bool) → A → List A → ℕ → ℕ → Bool
+placeFits fits vacant blank l n i = cond (ltb i n) (fits (getD l i blank)) (vacant (getD l i blank))
+
+abbrev pub everyPlace : {A : Type 0} → (A → Bool) → (A → Bool) → A → List A → ℕ → Bool
+everyPlace fits vacant blank l n = everyBelow (length l) (placeFits fits vacant blank l n)
+
+-- whose dealing a message is, "SetR from it or answer to it"
+abbrev pub dealerBy : Kind → Message → Link
+dealerBy (SetR new expected number) m = To (m .sender)
+dealerBy (SetRAck number) m = To (m .to)
+dealerBy SetRNak m = To (m .to)
+dealerBy (SetL left number) m = Unlinked

@@ -1,0 +1,2 @@
+pub mod InsertedLaws
+pub mod OwnerLaws

@@ -1,0 +1,56 @@
+// What a network is asked without being changed: who is inserted, and which node owns a serial. Each question is handed any network; it
+// tests it first, and refuses 6 there. Each contract is an equation with the rules of the crate `protocol` on the lists that the network's
+// arrays hold.
+ghost use mathlib.Core.Path.{_≡_};
+ghost use Rattle.questions.specs.Answers.{membersOf, insertedSaid, ownerOf, ownerSaid};
+use network::Network;
+use refusal::Refusal;
+
+mod members;
+mod owning;
+
+// Who is inserted: one word, bit n for node n, and how many they are.
+pub enum MembersAnswer {
+    Inserted { word: u32, size: u32 },
+    Refused(Refusal),
+}
+
+// The owner of a serial, and the hops that led to it.
+pub enum OwnerAnswer {
+    Found { node: u8, hops: u8 },
+    Refused(Refusal),
+}
+
+pub fn inserted(network: Network) -> MembersAnswer
+    ensures { λ r. ⌜ insertedSaid r ≡ membersOf network ⌝ }
+{
+    if !network.is_well_formed() {
+        return MembersAnswer::Refused(Refusal::Malformed);
+    }
+    let nodes = network.nodes;
+    let messages = network.messages;
+    let acks = members::acknowledged(messages, network.waiting as usize);
+    let word = members::word_of(nodes, network.count, acks);
+    MembersAnswer::Inserted {
+        word,
+        size: u32::count_ones(word),
+    }
+}
+
+pub fn owner(network: Network, start: u8, serial: u32) -> OwnerAnswer
+    ensures { λ r. ⌜ ownerSaid r ≡ ownerOf network start serial ⌝ }
+{
+    if !network.is_well_formed() {
+        return OwnerAnswer::Refused(Refusal::Malformed);
+    }
+    if network.count <= start {
+        return OwnerAnswer::Refused(Refusal::Undeclared);
+    }
+    if !serial::in_range(serial) {
+        return OwnerAnswer::Refused(Refusal::SerialTooLarge);
+    }
+    if !owning::starts(network, start) {
+        return OwnerAnswer::Refused(Refusal::StartNotInserted);
+    }
+    owning::walk(network, start, serial)
+}

@@ -1,0 +1,47 @@
+// The owner of a serial: along right links from a start, to the node whose interval holds the serial.
+ghost use mathlib.Core.Path.{_≡_};
+ghost use mathlib.Core.Bool.{true};
+ghost use Prim.Native.Nat.{_<_};
+ghost use Rattle.protocol.specs.State.{inserted};
+ghost use Rattle.protocol.specs.Questions.{ownerFrom};
+ghost use Rattle.network.specs.Arrays.{live, wellFormed};
+ghost use Rattle.questions.specs.Answers.{ownerSaid};
+use crate::OwnerAnswer;
+use crate::members;
+use network::Network;
+use node::Link;
+use refusal::Refusal;
+
+// Whether a node that is declared is inserted.
+pub fn starts(network: Network, start: u8) -> bool
+    requires { ⌜ (wellFormed network ≡ true) × (start < network .count) ⌝ }
+    ensures { λ r. ⌜ r ≡ inserted (live network) start ⌝ }
+{
+    let node = network.nodes[start as usize];
+    let messages = network.messages;
+    let acks = members::acknowledged(messages, network.waiting as usize);
+    let status = node.status;
+    members::is_inserted(status, acks[start as usize])
+}
+
+pub fn walk(network: Network, start: u8, serial: u32) -> OwnerAnswer
+    requires { ⌜ (wellFormed network ≡ true) × (start < network .count) ⌝ }
+    ensures { λ r. ⌜ ownerSaid r ≡ ownerFrom (live network) serial (network .count) start 0 ⌝ }
+{
+    let mut node = start;
+    let mut hops: u8 = 0;
+    while hops < network.count {
+        let here = network.nodes[node as usize];
+        let link = here.right;
+        let Link::To(next) = link else {
+            return OwnerAnswer::Refused(Refusal::OwnerNotFound);
+        };
+        let there = network.nodes[next as usize];
+        if interval::is_within(here.key, there.key, serial) {
+            return OwnerAnswer::Found { node, hops };
+        }
+        node = next;
+        hops += 1;
+    }
+    OwnerAnswer::Refused(Refusal::OwnerNotFound)
+}
