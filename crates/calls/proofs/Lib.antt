@@ -1,3 +1,4 @@
+pub mod AnswerLaws
 pub mod RunLaws
 pub mod Shift
 pub mod Stores

@@ -1,22 +1,27 @@
 -- Calls on the arrays follow the calls on the lists step by step, from the empty network on; a network that is not well formed comes back with
--- 6, and a refused call hands back the very network. Assumes nothing.
-use mathlib.Core.Path.{_≡_, refl}
+-- 6, and a refused call hands back the very network. A drain leads where its deliveries lead as calls, so what holds after every list of calls
+-- holds after a drain. Assumes nothing.
+use mathlib.Core.Path.{_≡_, refl, sym}
 use mathlib.Core.Bool.{true, false}
-use mathlib.Core.List.{List, [], _∷_}
+use mathlib.Core.List.{List, [], _∷_, _++_, map}
 use Prim.Native.Nat.{ℕ}
 use lib.ListN.{length}
 use Rattle.truth.proofs.TestLaws.{holds, is-true}
+use Rattle.refusal.specs.Rules.{done}
 use Rattle.node.specs.Shape.{capacity}
 use Rattle.protocol.specs.declared.Call.{Call}
+use Rattle.protocol.specs.declared.Call.the-variants.{Deliver}
 use Rattle.protocol.specs.State.{State, queueLimit, wellFormed as listsAreWellFormed}
 use Rattle.protocol.specs.Calls.{refused as listsRefused, applyOf as applyToLists}
 use Rattle.protocol.specs.History.{History, start, advanced, run as runLists, history}
+use Rattle.protocol.specs.Drain.{places, drained as drainedLists, drainOf as drainLists}
 use Rattle.protocol.proofs.Lively.{steady}
+use Rattle.protocol.proofs.Drains.{drain-is-calls}
 use Rattle.protocol.proofs.Theorem.{ring}
 use Rattle.network.specs.declared.Network.{Network}
 use Rattle.network.specs.Arrays.{live, wellFormed, held, empty}
 use Rattle.network.proofs.ArrayLaws.{live-held, held-well-formed, held-live}
-use Rattle.calls.specs.Outcomes.{refused, inArrays, applyOf, drainOf, run}
+use Rattle.calls.specs.Outcomes.{refused, inArrays, drainInArrays, applyOf, drainOf, run}
 
 -- ---- 6: a network that is not well formed comes back as it is
 pub malformed : (n : Network) (call : Call) → wellFormed n ≡ false → applyOf n call ≡ refused n 6
@@ -60,3 +65,25 @@ run-well-formed calls = rw (run-empty calls) (held-well-formed (history calls .s
 -- and what the next call says is what the rules say of the lists
 pub run-says : (calls : List Call) (call : Call) → applyOf (run empty calls) call .said ≡ applyToLists (history calls .state) call .said
 run-says calls call = rw (run-empty calls, apply-held (history calls .state) call (lists-stay-well-formed calls))
+
+-- ---- a drain counts as the deliveries it makes
+drain-held : (s : State) (budget : ℕ) → listsAreWellFormed s ≡ true → drainOf (held s) budget ≡ drainInArrays (drainedLists s (places budget s))
+unfolding drainOf drainLists
+drain-held s budget h = rw (held-well-formed s h, live-held s, h)
+
+module _ (calls : List Call) (budget : ℕ) where
+  -- the network that the calls make, drained
+  run-drained : drainOf (run empty calls) budget ≡ drainInArrays (drainedLists (history calls .state) (places budget (history calls .state)))
+  run-drained = rw (run-empty calls) (drain-held (history calls .state) budget (lists-stay-well-formed calls))
+
+  -- it is the one that the calls make with the drain's deliveries at their end
+  pub run-drain : drainOf (run empty calls) budget .network ≡ run empty (calls ++ map Deliver (places budget (history calls .state)))
+  run-drain = rw (run-drained, drain-is-calls calls budget) (sym (run-empty (calls ++ map Deliver (places budget (history calls .state)))))
+
+  -- and the answer is how many these are, and how many messages wait there
+  pub run-drain-says : drainOf (run empty calls) budget .said
+      ≡ done (record {
+        made = length (places budget (history calls .state));
+        left = length (history (calls ++ map Deliver (places budget (history calls .state))) .state .messages);
+      })
+  run-drain-says = rw (run-drained, drain-is-calls calls budget)

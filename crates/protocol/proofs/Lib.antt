@@ -21,4 +21,5 @@ pub mod Grants
 pub mod Steps
 pub mod Theorem
 pub mod Owners
+pub mod Members
 pub mod Example

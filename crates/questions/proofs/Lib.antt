@@ -1,2 +1,4 @@
 pub mod InsertedLaws
 pub mod OwnerLaws
+pub mod AnswerLaws
+pub mod RingLaws

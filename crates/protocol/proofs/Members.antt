@@ -1,0 +1,31 @@
+-- The word that says who is inserted: bit u of it says whether node u is, past the last node there are only zeros, and its ones are as many
+-- as the size says. Each is a law of words, read at the inserted nodes; in a well-formed network the nodes are so few that 32 bits hold the
+-- word. Assumes nothing.
+use mathlib.Core.Path.{_≡_}
+use Prim.Native.Nat.{ℕ, _/_, _%_, _^_, _≤_, _<_}
+use native.Mathlib.Nat.{lt-of-lt-of-le}
+use lib.ListN.{length}
+use lib.Dec.{T}
+use lib.Pow.{pow-mono}
+use lib.Count.{ones}
+use Rattle.truth.specs.Tests.{bit}
+use Rattle.truth.proofs.TestLaws.{is-true}
+use Rattle.truth.proofs.WordLaws.{word-fits, word-ones, word-bit, word-past}
+use Rattle.protocol.specs.State.{State, wellFormed, inserted}
+use Rattle.protocol.specs.Questions.{members}
+use Rattle.protocol.proofs.Facts.{formed}
+
+-- ---- each bit
+pub member-bit : (s : State) (u : ℕ) → u < length (s .nodes) → members s .word / 2 ^ u % 2 ≡ bit (inserted s u)
+member-bit s u k = word-bit (length (s .nodes)) (inserted s) u k
+
+pub no-bit-past : (s : State) (u : ℕ) → length (s .nodes) ≤ u → members s .word / 2 ^ u % 2 ≡ 0
+no-bit-past s u k = word-past (length (s .nodes)) (inserted s) u k
+
+-- ---- how many are inserted is the number of its ones
+pub size-is-ones : (s : State) → ones (members s .word) ≡ members s .size
+size-is-ones s = word-ones (length (s .nodes)) (inserted s)
+
+-- ---- "one 32-bit word"
+pub word-fits-32 : (s : State) → T (wellFormed s) → members s .word < 2 ^ 32
+word-fits-32 s w = lt-of-lt-of-le (word-fits (length (s .nodes)) (inserted s)) (pow-mono (formed s (is-true _ w) .few-nodes))
