@@ -19,7 +19,9 @@ ghost use Rattle.calls.specs.Changes.{committed, afterStep, roomRules};
 use crate::Answer;
 use crate::Called;
 use crate::store;
+use network::CAPACITY;
 use network::Network;
+use network::QUEUE_LIMIT;
 use node::Kind;
 use node::Message;
 use node::Node;
@@ -79,7 +81,7 @@ fn has_room(waiting: u8, posts: Posts) -> bool
     requires { ⌜ waiting ≤ 64 ⌝ }
     ensures { λ r. ⌜ r ≡ leb (waiting + length (listed posts)) 64 ⌝ }
 {
-    waiting + length_of(posts) <= 64
+    waiting + length_of(posts) <= QUEUE_LIMIT
 }
 
 fn is_out(status: Status) -> bool
@@ -163,7 +165,7 @@ fn check_declare(network: Network, key: u32) -> Check
         !serial::in_range(key),
         Refusal::SerialTooLarge,
         refusal::rule(
-            !(count < 32),
+            !(count < CAPACITY),
             Refusal::NetworkFull,
             refusal::rule(
                 !key_is_new(nodes, count as usize, key),

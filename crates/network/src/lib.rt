@@ -8,6 +8,11 @@ use node::Node;
 
 mod shape;
 
+// "up to 32 benches", "up to 64 messages on the way".
+pub const CAPACITY: u8 = 32;
+
+pub const QUEUE_LIMIT: u8 = 64;
+
 // The first `count` nodes are declared, and a node's number is its place; the first `waiting` messages wait, in the order posted.
 pub struct Network {
     pub nodes: [Node; 32],

@@ -9,7 +9,9 @@ ghost use Rattle.node.specs.Shape.{isOut, linked, numbered, nodeFits, messageFi
 ghost use Rattle.protocol.specs.State.{isNak, isDealingOf, dealings};
 ghost use Rattle.network.specs.Arrays.{vacantNode, vacantMessage, isVacantNode, isVacantMessage, wellFormed};
 ghost use Rattle.network.specs.Walks.{everyPlace, dealerBy};
+use crate::CAPACITY;
 use crate::Network;
+use crate::QUEUE_LIMIT;
 use node::Kind;
 use node::Link;
 use node::Message;
@@ -240,7 +242,7 @@ impl Network {
         ensures { λ r. ⌜ r ≡ wellFormed self ⌝ }
     {
         let count = self.count;
-        if (32 < count) | (64 < self.waiting) {
+        if (CAPACITY < count) | (QUEUE_LIMIT < self.waiting) {
             return false;
         }
         let nodes = self.nodes;
