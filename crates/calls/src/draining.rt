@@ -26,7 +26,7 @@ fn lowest(network: Network) -> u8
     0
 }
 
-pub fn run(network: Network, budget: u16) -> Drained
+pub(crate) fn run(network: Network, budget: u16) -> Drained
     requires { ⌜ wellFormed network ≡ true ⌝ }
     ensures { λ r. ⌜ drained r ≡ drainOf network budget ⌝ }
 {

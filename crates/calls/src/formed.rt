@@ -34,7 +34,7 @@ use protocol::Reply;
 use refusal::Check;
 use refusal::Refusal;
 
-pub fn refuse(network: Network, refusal: Refusal) -> Called
+pub(crate) fn refuse(network: Network, refusal: Refusal) -> Called
     ensures { λ r. ⌜ called r ≡ refused network (code refusal) ⌝ }
 {
     Called {
@@ -176,7 +176,7 @@ fn check_declare(network: Network, key: u32) -> Check
     )
 }
 
-pub fn declare(network: Network, key: u32) -> Called
+pub(crate) fn declare(network: Network, key: u32) -> Called
     requires { ⌜ wellFormed network ≡ true ⌝ }
     ensures { λ r. ⌜ called r ≡ applyOf network (Declare key) ⌝ }
 {
@@ -215,7 +215,7 @@ fn check_create(network: Network, node: u8) -> Check
     )
 }
 
-pub fn create(network: Network, number: u8) -> Called
+pub(crate) fn create(network: Network, number: u8) -> Called
     requires { ⌜ wellFormed network ≡ true ⌝ }
     ensures { λ r. ⌜ called r ≡ applyOf network (Create number) ⌝ }
 {
@@ -256,7 +256,7 @@ fn check_room(waiting: u8, posts: Posts) -> Check
     refusal::rule(!has_room(waiting, posts), Refusal::QueueFull, Check::Clear)
 }
 
-pub fn join(network: Network, number: u8, left: u8, right: u8) -> Called
+pub(crate) fn join(network: Network, number: u8, left: u8, right: u8) -> Called
     requires { ⌜ wellFormed network ≡ true ⌝ }
     ensures { λ r. ⌜ called r ≡ applyOf network (Join number left right) ⌝ }
 {
@@ -281,7 +281,7 @@ pub fn join(network: Network, number: u8, left: u8, right: u8) -> Called
     }
 }
 
-pub fn leave(network: Network, number: u8) -> Called
+pub(crate) fn leave(network: Network, number: u8) -> Called
     requires { ⌜ wellFormed network ≡ true ⌝ }
     ensures { λ r. ⌜ called r ≡ applyOf network (Leave number) ⌝ }
 {
@@ -310,7 +310,7 @@ fn receive(network: Network, place: u8) -> Step
 }
 
 // Whether a delivery at a place where a message waits is not refused: its posts find room where the message stood.
-pub fn delivers(network: Network, place: u8) -> bool
+pub(crate) fn delivers(network: Network, place: u8) -> bool
     requires { ⌜ (wellFormed network ≡ true) × (place < network .waiting) ⌝ }
     ensures { λ r. ⌜ r ≡ accepted (applyToLists (live network) (Deliver place) .said) ⌝ }
 {
@@ -319,7 +319,7 @@ pub fn delivers(network: Network, place: u8) -> bool
     has_room(network.waiting - 1, posts)
 }
 
-pub fn deliver(network: Network, place: u8) -> Called
+pub(crate) fn deliver(network: Network, place: u8) -> Called
     requires { ⌜ wellFormed network ≡ true ⌝ }
     ensures { λ r. ⌜ called r ≡ applyOf network (Deliver place) ⌝ }
 {

@@ -10,7 +10,7 @@ use node::Message;
 use node::Node;
 use node::Posts;
 
-pub fn place(network: Network, number: u8, node: Node) -> Network
+pub(crate) fn place(network: Network, number: u8, node: Node) -> Network
     requires { ⌜ number < 32 ⌝ }
     ensures { λ r. ⌜ r ≡ placed network number node ⌝ }
 {
@@ -19,7 +19,7 @@ pub fn place(network: Network, number: u8, node: Node) -> Network
     n
 }
 
-pub fn add(network: Network, node: Node) -> Network
+pub(crate) fn add(network: Network, node: Node) -> Network
     requires { ⌜ network .count < 32 ⌝ }
     ensures { λ r. ⌜ r ≡ added network node ⌝ }
 {
@@ -31,7 +31,7 @@ pub fn add(network: Network, node: Node) -> Network
 }
 
 // "closes the gap": each later message moves one place down, and the last one's place is vacant.
-pub fn close(network: Network, place: u8) -> Network
+pub(crate) fn close(network: Network, place: u8) -> Network
     requires { ⌜ (place < network .waiting) × (network .waiting ≤ 64) ⌝ }
     ensures { λ r. ⌜ r ≡ closed network place ⌝ }
 {
@@ -64,7 +64,7 @@ fn post(network: Network, message: Message) -> Network
     n
 }
 
-pub fn post_all(network: Network, posts: Posts) -> Network
+pub(crate) fn post_all(network: Network, posts: Posts) -> Network
     requires { ⌜ network .waiting + length (listed posts) ≤ 64 ⌝ }
     ensures { λ r. ⌜ r ≡ allPosted network (listed posts) ⌝ }
 {

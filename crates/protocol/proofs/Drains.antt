@@ -3,51 +3,35 @@
 -- one; and each delivery leaves the network well formed. Assumes nothing.
 use mathlib.Core.Path.{_≡_, refl, sym, ap, _∙_}
 use mathlib.Core.Logic.{⊎-elim, _≢_}
-use mathlib.Core.Bool.{Bool, true, false, not, _&&_}
+use mathlib.Core.Bool.{Bool, true, false}
 use mathlib.Core.List.{List, [], _∷_, _++_, map}
-use mathlib.Core.Option.{none, some}
+use mathlib.Core.Option.{some}
 use Prim.Native.Nat.{ℕ, zero, suc, _+_, _≤_, _<_}
 use native.Mathlib.Omega.{arith}
 use native.Mathlib.Nat.{eq-or-lt-of-le, eq-zero-or-pos}
 use lib.ListN.{length}
 use lib.Dec.{T, ltb}
-use borrow.Author.Tests.{ltb-true, lt-ltb}
+use borrow.Author.Tests.{ltb-true}
 use Rattle.truth.proofs.Laws.{and-false}
 use Rattle.truth.proofs.TestLaws.{decided, is-true, not-both, bit-true}
 use Rattle.protocol.specs.declared.Call.{Call}
 use Rattle.protocol.specs.declared.Call.the-variants.{Deliver}
 use Rattle.protocol.specs.State.{State, wellFormed}
-use Rattle.protocol.specs.Calls.{isFull, isGrantable, applyOf}
+use Rattle.protocol.specs.Calls.{isFull, applyOf}
 use Rattle.protocol.specs.History.{accepted, History, start, advanced, run, history}
 use Rattle.protocol.specs.Drain.{lowestFrom, lowest, afterDelivery, places, deliverAll}
 use Rattle.protocol.specs.FurtherClaims.{Drains, DrainClaim, DrainIsCalls}
-use Rattle.protocol.proofs.Facts.{formed}
-use Rattle.protocol.proofs.Refusals.{act-accepted}
-use Rattle.protocol.proofs.Cases.{delivery}
 use Rattle.protocol.proofs.Lively.{steady}
 
 -- whether a delivery at a place is not refused
 abbrev pub canDeliver : State → ℕ → Bool
 canDeliver s place = accepted (applyOf s (Deliver place) .said)
 
--- ---- which deliveries are refused
+-- ---- a delivery where no message waits is refused
 module _ (s : State) (place : ℕ) (w : T (wellFormed s)) where
-  -- each where no message waits
   absent-refused : ltb place (length (s .messages)) ≡ false → canDeliver s place ≡ false
   unfolding applyOf
   absent-refused absent = rw (is-true (wellFormed s) w, absent, and-false (isFull s))
-
-  barred-refused : ltb place (length (s .messages)) ≡ true → (isFull s && isGrantable s place) ≡ true → canDeliver s place ≡ false
-  unfolding applyOf
-  barred-refused present barred = rw (is-true (wellFormed s) w, present, barred)
-
-  -- and where one waits, that of a request which a full queue bars, and no other
-  pub delivery-refused : place < length (s .messages) → canDeliver s place ≡ not (isFull s && isGrantable s place)
-  delivery-refused waits =
-      ⊎-elim
-      (λ barred. barred-refused (lt-ltb place _ waits) barred ∙ sym (ap not barred))
-      (λ free. is-true _ (act-accepted (delivery (formed s (is-true _ w)) waits free)) ∙ sym (ap not free))
-      (decided (isFull s && isGrantable s place))
 
   waits-there : canDeliver s place ≡ true → place < length (s .messages)
   waits-there can = ⊎-elim (λ t. ltb-true place _ t) (λ f. absurd (not-both can (absent-refused f))) (decided (ltb place (length (s .messages))))
@@ -81,9 +65,6 @@ search-ends s (suc k) from q above below can =
 
 pub lowest-at : (s : State) (place : ℕ) → place < length (s .messages) → ((q : ℕ) → q < place → canDeliver s q ≡ false) → canDeliver s place ≡ true → lowest s ≡ some place
 lowest-at s place waits before can = lowest-from s (length (s .messages)) 0 place (omega arith) (omega arith) (λ q _ l. before q l) can
-
-pub lowest-none : (s : State) → length (s .messages) ≡ 0 → lowest s ≡ none
-lowest-none s e = rw e
 
 pub some-lowest : (s : State) → T (wellFormed s) → 0 < length (s .messages) → (place : ℕ) × (place < length (s .messages)) × T (canDeliver s place)
 some-lowest s w some-wait = let (place, can) = steady s w .lively .progress some-wait in (place, waits-there s place w (is-true _ can), can)

@@ -28,7 +28,7 @@ fn is_ack(kind: Kind) -> bool
 }
 
 // To which nodes a SetRAck waits, by one walk over the messages.
-pub fn acknowledged(messages: [Message; 64], waiting: usize) -> [bool; 32]
+pub(crate) fn acknowledged(messages: [Message; 64], waiting: usize) -> [bool; 32]
     requires { ⌜ (waiting ≤ 64) × (every (messageFits 32) (take waiting messages) ≡ true) ⌝ }
     ensures { λ r. ⌜ ((u : ℕ) → u < 32 → getD r u false ≡ any (isAckTo u) (take waiting messages)) ⌝ }
 {
@@ -45,7 +45,7 @@ pub fn acknowledged(messages: [Message; 64], waiting: usize) -> [bool; 32]
     acks
 }
 
-pub fn is_inserted(status: Status, acknowledged: bool) -> bool
+pub(crate) fn is_inserted(status: Status, acknowledged: bool) -> bool
     ensures { λ r. ⌜ r ≡ isInserted status acknowledged ⌝ }
 {
     match status {
@@ -56,7 +56,7 @@ pub fn is_inserted(status: Status, acknowledged: bool) -> bool
     }
 }
 
-pub fn word_of(nodes: [Node; 32], count: u8, acks: [bool; 32]) -> u32
+pub(crate) fn word_of(nodes: [Node; 32], count: u8, acks: [bool; 32]) -> u32
     requires { ⌜ count ≤ 32 ⌝ }
     ensures { λ r. ⌜ r ≡ wordBelow count (λ u. isInserted (getD nodes u vacantNode .status) (getD acks u false)) ⌝ }
 {

@@ -13,7 +13,7 @@ use node::Link;
 use refusal::Refusal;
 
 // Whether a node that is declared is inserted.
-pub fn starts(network: Network, start: u8) -> bool
+pub(crate) fn starts(network: Network, start: u8) -> bool
     requires { ⌜ (wellFormed network ≡ true) × (start < network .count) ⌝ }
     ensures { λ r. ⌜ r ≡ inserted (live network) start ⌝ }
 {
@@ -24,7 +24,7 @@ pub fn starts(network: Network, start: u8) -> bool
     members::is_inserted(status, acks[start as usize])
 }
 
-pub fn walk(network: Network, start: u8, serial: u32) -> OwnerAnswer
+pub(crate) fn walk(network: Network, start: u8, serial: u32) -> OwnerAnswer
     requires { ⌜ (wellFormed network ≡ true) × (start < network .count) ⌝ }
     ensures { λ r. ⌜ ownerSaid r ≡ ownerFrom (live network) serial (network .count) start 0 ⌝ }
 {

@@ -73,10 +73,6 @@ pub words-agree : (n : ℕ) (f g : ℕ → Bool) → ((u : ℕ) → u < n → f 
 words-agree zero f g same = refl
 words-agree (suc n) f g same = rw (same n (omega arith), words-agree n f g (λ u k. same u (omega arith)))
 
-pub counts-agree : (n : ℕ) (f g : ℕ → Bool) → ((u : ℕ) → u < n → f u ≡ g u) → countBelow n f ≡ countBelow n g
-counts-agree zero f g same = refl
-counts-agree (suc n) f g same = rw (same n (omega arith), counts-agree n f g (λ u k. same u (omega arith)))
-
 -- ---- one number more
 pub word-with : (n : ℕ) (test : ℕ → Bool) → test n ≡ true → wordBelow (suc n) test ≡ 2 ^ n + wordBelow n test
 word-with n test e = rw (e, one-mul)
