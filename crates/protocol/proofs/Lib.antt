@@ -23,3 +23,4 @@ pub mod Theorem
 pub mod Owners
 pub mod Members
 pub mod Example
+pub mod Posted
