@@ -1,0 +1,84 @@
+-- What is read of paper 01's example script, and of single records that the paper gives or that its table settles. Each computes.
+-- Assumes nothing.
+use Prim.Native.Nat.{ℕ, zero, suc}
+use mathlib.Core.Path.{_≡_, refl}
+use mathlib.Core.List.{List, [], _∷_}
+use Rattle.refusal.specs.Rules.{done, no as refusal}
+use Rattle.script.specs.Script.{Read, end, stop, next, declare, create, join, leave, deliver, owner, drain, readAt}
+
+-- ---- the example script
+paperScript : List ℕ
+paperScript =
+    0x42 ∷ 0x43 ∷ 0x00 ∷ 0x00 ∷ 0x10 ∷ 0x00
+    ∷ 0x42 ∷ 0x4e ∷ 0xd0 ∷ 0x07 ∷ 0x00 ∷ 0x00
+    ∷ 0x43 ∷ 0x52 ∷ 0x00
+    ∷ 0x4a ∷ 0x4e ∷ 0x01 ∷ 0x00 ∷ 0x00
+    ∷ 0x44 ∷ 0x4c ∷ 0x00
+    ∷ 0x44 ∷ 0x4c ∷ 0x01
+    ∷ 0x4c ∷ 0x56 ∷ 0x00
+    ∷ 0x44 ∷ 0x4c ∷ 0x01
+    ∷ 0x44 ∷ 0x4c ∷ 0x00
+    ∷ 0x44 ∷ 0x4c ∷ 0x00
+    ∷ 0x4f ∷ 0x43 ∷ 0x00 ∷ 0x00 ∷ 0x00 ∷ 0x09 ∷ 0x99
+    ∷ 0x44 ∷ 0x4c ∷ 0x00
+    ∷ []
+
+-- what is read from a cursor on, record after record, n readings at most
+readings : ℕ → List ℕ → ℕ → List Read
+readings zero script at = []
+readings (suc n) script at = readAt script at ∷ onward (readAt script at) (readings n script)
+  where
+    onward : Read → (ℕ → List Read) → List Read
+    onward end rest = []
+    onward (stop k) rest = []
+    onward (next e after) rest = rest after
+
+paper-script :
+    readings 20 paperScript 0
+    ≡ next (declare (done 1_000)) 6
+    ∷ next (declare (done 2_000)) 12
+    ∷ next (create 0) 15
+    ∷ next (join 1 0 0) 20
+    ∷ next (deliver 0) 23
+    ∷ next (deliver 1) 26
+    ∷ next (leave 0) 29
+    ∷ next (deliver 1) 32
+    ∷ next (deliver 0) 35
+    ∷ next (deliver 0) 38
+    ∷ next (owner 0 (done 999)) 45
+    ∷ next (deliver 0) 48
+    ∷ end
+    ∷ []
+unfolding readAt readings paperScript
+paper-script = refl
+
+-- ---- "BC 00 00 12 34 is 1,234", "BN 00 00 12 34 is refused 4", "BC 00 00 00 0A is refused 3": the cursor goes on
+packed : readAt (0x42 ∷ 0x43 ∷ 0x00 ∷ 0x00 ∷ 0x12 ∷ 0x34 ∷ []) 0 ≡ next (declare (done 1_234)) 6
+unfolding readAt
+packed = refl
+
+binary-too-large : readAt (0x42 ∷ 0x4e ∷ 0x00 ∷ 0x00 ∷ 0x12 ∷ 0x34 ∷ []) 0 ≡ next (declare (refusal 4)) 6
+unfolding readAt
+binary-too-large = refl
+
+bad-digit : readAt (0x42 ∷ 0x43 ∷ 0x00 ∷ 0x00 ∷ 0x00 ∷ 0x0a ∷ []) 0 ≡ next (declare (refusal 3)) 6
+unfolding readAt
+bad-digit = refl
+
+-- ---- "2 bytes low first"
+low-byte-first : readAt (0x52 ∷ 0x44 ∷ 0x01 ∷ 0x02 ∷ []) 0 ≡ next (drain 513) 4
+unfolding readAt
+low-byte-first = refl
+
+-- ---- 2 "record cut short (one byte of a mark too)"; 1 "unknown mark", as a mark's letters are capitals
+cut-in-the-mark : readAt (0x42 ∷ []) 0 ≡ stop 2
+unfolding readAt
+cut-in-the-mark = refl
+
+cut-in-the-fields : readAt (0x52 ∷ 0x44 ∷ 0x01 ∷ []) 0 ≡ stop 2
+unfolding readAt
+cut-in-the-fields = refl
+
+lower-case : readAt (0x62 ∷ 0x63 ∷ 0x00 ∷ 0x00 ∷ 0x12 ∷ 0x34 ∷ []) 0 ≡ stop 1
+unfolding readAt
+lower-case = refl

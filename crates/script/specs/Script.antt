@@ -1,0 +1,111 @@
+-- A script, record by record: "A two-byte mark stands before each record", then its fields. What is read at a cursor is a record with the
+-- cursor after it, the end of the script, or a refusal that stops the reading. Definitions only.
+use Prim.Native.Nat.{ℕ, _+_}
+use Prim.Native.Char.{code as byte}
+use Prim.Native.String.{String, [] as nothing, _∷_ as _then_}
+use mathlib.Core.Bool.{Bool, false, _&&_, cond}
+use mathlib.Core.List.{List, [], _∷_, reverse}
+use lib.ListN.{length, getD, drop}
+use lib.Dec.{eqb, leb, ltb}
+use Rattle.refusal.specs.Code.{code}
+use Rattle.refusal.specs.Rules.{Coded}
+use Rattle.serial.specs.Serial.{coded, positional, packedOf, binaryOf}
+use Rattle.script.specs.declared.Mark.{Mark}
+use Rattle.script.specs.declared.Mark.the-variants.{PackedDeclare, BinaryDeclare, Create, Join, Leave, Deliver, PackedOwner, BinaryOwner, Drain}
+use Rattle.script.specs.declared.Lookup.{Lookup}
+use Rattle.script.specs.declared.Lookup.the-variants.{Known, Unknown}
+use Rattle.script.specs.declared.Record.{Record}
+use Rattle.script.specs.declared.Record.the-variants.{Declare as DeclareRecord, Create as CreateRecord, Join as JoinRecord, Leave as LeaveRecord, Deliver as DeliverRecord, Owner as OwnerRecord, Drain as DrainRecord}
+use Rattle.script.specs.declared.Reading.{Reading}
+use Rattle.script.specs.declared.Reading.the-variants.{End, Stopped, Next}
+
+-- ---- what a record asks; a serial is a number, or the refusal that comes at its turn
+pub data Entry : Type 0 where
+  declare : Coded ℕ → Entry
+  create : ℕ → Entry
+  join : ℕ → ℕ → ℕ → Entry
+  leave : ℕ → Entry
+  deliver : ℕ → Entry
+  owner : ℕ → Coded ℕ → Entry
+  drain : ℕ → Entry
+
+-- what is read at a cursor: a record and the cursor after it, or the number of a refusal that stops the reading
+pub data Read : Type 0 where
+  end : Read
+  stop : ℕ → Read
+  next : Entry → ℕ → Read
+
+-- ---- the table of marks
+abbrev pub spells : String → ℕ → ℕ → Bool
+spells nothing a b = false
+spells (c then nothing) a b = false
+spells (c then (d then rest)) a b = eqb a (byte c) && eqb b (byte d)
+
+abbrev pub markOf : ℕ → ℕ → Lookup
+markOf a b =
+    cond (spells "BC" a b) (Known PackedDeclare)
+    (cond (spells "BN" a b) (Known BinaryDeclare)
+    (cond (spells "CR" a b) (Known Create)
+    (cond (spells "JN" a b) (Known Join)
+    (cond (spells "LV" a b) (Known Leave)
+    (cond (spells "DL" a b) (Known Deliver)
+    (cond (spells "OC" a b) (Known PackedOwner)
+    (cond (spells "ON" a b) (Known BinaryOwner)
+    (cond (spells "RD" a b) (Known Drain)
+    Unknown))))))))
+
+-- the bytes of the fields: "Bench and place are one byte", a serial has four, a budget two
+abbrev pub sizeOf : Mark → ℕ
+sizeOf PackedDeclare = 4
+sizeOf BinaryDeclare = 4
+sizeOf Create = 1
+sizeOf Join = 3
+sizeOf Leave = 1
+sizeOf Deliver = 1
+sizeOf PackedOwner = 5
+sizeOf BinaryOwner = 5
+sizeOf Drain = 2
+
+-- four bytes from place i on
+abbrev pub four : List ℕ → ℕ → List ℕ
+four fields i = getD fields i 0 ∷ getD fields (i + 1) 0 ∷ getD fields (i + 2) 0 ∷ getD fields (i + 3) 0 ∷ []
+
+abbrev pub entryOf : Mark → List ℕ → Entry
+entryOf PackedDeclare fields = declare (packedOf (four fields 0))
+entryOf BinaryDeclare fields = declare (binaryOf (four fields 0))
+entryOf Create fields = create (getD fields 0 0)
+entryOf Join fields = join (getD fields 0 0) (getD fields 1 0) (getD fields 2 0)
+entryOf Leave fields = leave (getD fields 0 0)
+entryOf Deliver fields = deliver (getD fields 0 0)
+entryOf PackedOwner fields = owner (getD fields 0 0) (packedOf (four fields 1))
+entryOf BinaryOwner fields = owner (getD fields 0 0) (binaryOf (four fields 1))
+-- "2 bytes low first"
+entryOf Drain fields = drain (positional 256 (reverse (getD fields 0 0 ∷ getD fields 1 0 ∷ [])))
+
+-- ---- a record at a cursor
+-- 1 "unknown mark", 2 "record cut short"; `at` is the cursor after the mark
+abbrev pub readFields : Lookup → List ℕ → ℕ → Read
+readFields Unknown fields at = stop 1
+readFields (Known mark) fields at = cond (ltb (length fields) (sizeOf mark)) (stop 2) (next (entryOf mark fields) (at + sizeOf mark))
+
+-- 2 "(one byte of a mark too)"
+unfoldable pub readAt : List ℕ → ℕ → Read
+readAt script at =
+    cond (leb (length script) at) end
+    (cond (ltb (length script) (at + 2)) (stop 2)
+    (readFields (markOf (getD script at 0) (getD script (at + 1) 0)) (drop (at + 2) script) (at + 2)))
+
+-- ---- "Where an answer is an enum, a definition gives this paper's number and values for each case of the enum."
+abbrev pub entry : Record → Entry
+entry (DeclareRecord serial) = declare (coded serial)
+entry (CreateRecord u) = create u
+entry (JoinRecord u p q) = join u p q
+entry (LeaveRecord u) = leave u
+entry (DeliverRecord place) = deliver place
+entry (OwnerRecord start serial) = owner start (coded serial)
+entry (DrainRecord budget) = drain budget
+
+abbrev pub reading : Reading → Read
+reading End = end
+reading (Stopped r) = stop (code r)
+reading (Next r after) = next (entry r) after

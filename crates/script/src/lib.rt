@@ -1,0 +1,179 @@
+// Reading a script: the record at a cursor, for every slice of bytes and every cursor. A record's serial is read in its form, and stands
+// in the record as a number or as the refusal that comes at the serial's turn, after those of the fields before it.
+ghost use mathlib.Core.Path.{_≡_};
+ghost use Prim.Native.Nat.{_<_};
+ghost use mathlib.Core.Bool.{cond, _&&_};
+ghost use mathlib.Core.List.{[], _∷_, reverse};
+ghost use lib.ListN.{getD};
+ghost use lib.Dec.{eqb};
+ghost use Rattle.serial.specs.Serial.{coded, packedOf, binaryOf, positional};
+ghost use Rattle.script.specs.Script.{markOf, sizeOf, four, entryOf, readAt, entry, reading};
+use refusal::Refusal;
+use serial::Serial;
+
+// The marks of the table in paper 01, by what their records ask and how a serial is written there.
+pub enum Mark {
+    PackedDeclare,
+    BinaryDeclare,
+    Create,
+    Join,
+    Leave,
+    Deliver,
+    PackedOwner,
+    BinaryOwner,
+    Drain,
+}
+
+// What two bytes are in that table.
+pub enum Lookup {
+    Known(Mark),
+    Unknown,
+}
+
+pub enum Record {
+    Declare(Serial),
+    Create(u8),
+    Join { node: u8, left: u8, right: u8 },
+    Leave(u8),
+    Deliver(u8),
+    Owner { start: u8, serial: Serial },
+    Drain(u16),
+}
+
+// What is read at a cursor: nothing more, a record with the cursor after it, or why the reading stops.
+pub enum Reading {
+    End,
+    Stopped(Refusal),
+    Next { record: Record, after: usize },
+}
+
+// One more entry of the table, before those of `rest`: `first` and `second` are the letters of `mark`.
+fn or(a: u8, b: u8, first: u8, second: u8, mark: Mark, rest: Lookup) -> Lookup
+    ensures { λ r. ⌜ r ≡ cond (eqb a first && eqb b second) (Lookup.Known mark) rest ⌝ }
+{
+    if (a == first) & (b == second) {
+        Lookup::Known(mark)
+    } else {
+        rest
+    }
+}
+
+fn look_up(a: u8, b: u8) -> Lookup
+    ensures { λ r. ⌜ r ≡ markOf a b ⌝ }
+{
+    let drain = or(a, b, b'R', b'D', Mark::Drain, Lookup::Unknown);
+    let owner = or(a, b, b'O', b'N', Mark::BinaryOwner, drain);
+    let owner = or(a, b, b'O', b'C', Mark::PackedOwner, owner);
+    let deliver = or(a, b, b'D', b'L', Mark::Deliver, owner);
+    let leave = or(a, b, b'L', b'V', Mark::Leave, deliver);
+    let join = or(a, b, b'J', b'N', Mark::Join, leave);
+    let create = or(a, b, b'C', b'R', Mark::Create, join);
+    let declare = or(a, b, b'B', b'N', Mark::BinaryDeclare, create);
+    or(a, b, b'B', b'C', Mark::PackedDeclare, declare)
+}
+
+fn size_of(mark: Mark) -> usize
+    ensures { λ r. ⌜ r ≡ sizeOf mark ⌝ }
+{
+    match mark {
+        Mark::PackedDeclare => 4,
+        Mark::BinaryDeclare => 4,
+        Mark::Create => 1,
+        Mark::Join => 3,
+        Mark::Leave => 1,
+        Mark::Deliver => 1,
+        Mark::PackedOwner => 5,
+        Mark::BinaryOwner => 5,
+        Mark::Drain => 2,
+    }
+}
+
+// The byte at a place; past the end, 0.
+fn byte(fields: &[u8], i: usize) -> u8
+    ensures { λ r. ⌜ r ≡ getD (now (fields .entry)) i 0 ⌝ }
+{
+    if i < fields.len() { fields[i] } else { 0 }
+}
+
+fn packed_at(fields: &[u8], i: usize) -> Serial
+    requires { ⌜ i < 8 ⌝ }
+    ensures { λ r. ⌜ coded r ≡ packedOf (four (now (fields .entry)) i) ⌝ }
+{
+    serial::packed(
+        byte(fields, i),
+        byte(fields, i + 1),
+        byte(fields, i + 2),
+        byte(fields, i + 3),
+    )
+}
+
+fn binary_at(fields: &[u8], i: usize) -> Serial
+    requires { ⌜ i < 8 ⌝ }
+    ensures { λ r. ⌜ coded r ≡ binaryOf (four (now (fields .entry)) i) ⌝ }
+{
+    serial::binary(
+        byte(fields, i),
+        byte(fields, i + 1),
+        byte(fields, i + 2),
+        byte(fields, i + 3),
+    )
+}
+
+// A number of two bytes, the low one first.
+fn two_bytes(low: u8, high: u8) -> u16
+    ensures { λ r. ⌜ r ≡ positional 256 (reverse (low ∷ high ∷ [])) ⌝ }
+{
+    low as u16 + 256 * high as u16
+}
+
+fn record_of(mark: Mark, fields: &[u8]) -> Record
+    ensures { λ r. ⌜ entry r ≡ entryOf mark (now (fields .entry)) ⌝ }
+{
+    match mark {
+        Mark::PackedDeclare => Record::Declare(packed_at(fields, 0)),
+        Mark::BinaryDeclare => Record::Declare(binary_at(fields, 0)),
+        Mark::Create => Record::Create(byte(fields, 0)),
+        Mark::Join => Record::Join {
+            node: byte(fields, 0),
+            left: byte(fields, 1),
+            right: byte(fields, 2),
+        },
+        Mark::Leave => Record::Leave(byte(fields, 0)),
+        Mark::Deliver => Record::Deliver(byte(fields, 0)),
+        Mark::PackedOwner => Record::Owner {
+            start: byte(fields, 0),
+            serial: packed_at(fields, 1),
+        },
+        Mark::BinaryOwner => Record::Owner {
+            start: byte(fields, 0),
+            serial: binary_at(fields, 1),
+        },
+        Mark::Drain => Record::Drain(two_bytes(byte(fields, 0), byte(fields, 1))),
+    }
+}
+
+pub fn read(script: &[u8], at: usize) -> Reading
+    ensures { λ r. ⌜ reading r ≡ readAt (now (script .entry)) at ⌝ }
+{
+    if script.len() <= at {
+        return Reading::End;
+    }
+    if script.len() - at < 2 {
+        return Reading::Stopped(Refusal::CutShort);
+    }
+    let start = at + 2;
+    let lookup = look_up(script[at], script[at + 1]);
+    let Lookup::Known(mark) = lookup else {
+        return Reading::Stopped(Refusal::UnknownMark);
+    };
+    let size = size_of(mark);
+    let fields = &script[start..];
+    if fields.len() < size {
+        Reading::Stopped(Refusal::CutShort)
+    } else {
+        Reading::Next {
+            record: record_of(mark, fields),
+            after: start + size,
+        }
+    }
+}
