@@ -1,0 +1,50 @@
+-- The printout of paper 01, byte by byte, from what is said of its records. It computes. Assumes nothing.
+use Prim.Native.Nat.{ℕ, suc}
+use mathlib.Core.Path.{_≡_, refl}
+use mathlib.Core.List.{List, [], _∷_, _++_}
+use Rattle.text.specs.Text.{ascii, decimal}
+use Rattle.refusal.specs.Rules.{Coded, done, no}
+use Rattle.node.specs.declared.Outcome.the-variants.{Created, Waiting, Granted, Denied, Joined, LeaveDenied, LeftSet}
+use Rattle.protocol.specs.declared.Reply.the-variants.{Declared, Stepped}
+use Rattle.printout.specs.Lines.{Remark, reply, owner, heading, lineOf, lastLine}
+
+abbrev lines : ℕ → List (Coded Remark) → List ℕ
+lines ordinal [] = []
+lines ordinal (s ∷ rest) = lineOf ordinal s ++ lines (suc ordinal) rest
+
+abbrev saidInThePaper : List (Coded Remark)
+saidInThePaper =
+    done (reply (Declared 0 1_000))
+    ∷ done (reply (Declared 1 2_000))
+    ∷ done (reply (Stepped Created))
+    ∷ done (reply (Stepped Waiting))
+    ∷ done (reply (Stepped Granted))
+    ∷ done (reply (Stepped Joined))
+    ∷ done (reply (Stepped Waiting))
+    ∷ done (reply (Stepped Denied))
+    ∷ done (reply (Stepped LeftSet))
+    ∷ done (reply (Stepped LeaveDenied))
+    ∷ done (owner (record { node = 1; hops = 1 }))
+    ∷ no 29
+    ∷ []
+
+abbrev printout : List ℕ
+printout =
+    ascii "ring 1\n"
+    ++ ascii "1 bench 0 key 1000\n"
+    ++ ascii "2 bench 1 key 2000\n"
+    ++ ascii "3 created\n"
+    ++ ascii "4 waiting\n"
+    ++ ascii "5 granted\n"
+    ++ ascii "6 joined\n"
+    ++ ascii "7 waiting\n"
+    ++ ascii "8 denied\n"
+    ++ ascii "9 left-set\n"
+    ++ ascii "10 leave-denied\n"
+    ++ ascii "11 owner 1 hops 1\n"
+    ++ ascii "12 no 29\n"
+    ++ ascii "end 0 posted 5\n"
+
+pub printed-in-the-paper : heading ++ lines 1 saidInThePaper ++ lastLine 0 5 ≡ printout
+unfolding lineOf lastLine decimal
+printed-in-the-paper = refl

@@ -1,0 +1,58 @@
+-- `printout::put_outcome` meets its contract: each arm puts the word of its outcome. Assumes nothing.
+use borrow.Author.Needs.{needs}
+use Rattle.text.proofs.Laws.{put}
+use Rattle.printout.proofs.put_outcome.Statement.{statement}
+use Rattle.printout.proofs.put_outcome.Tie as tie
+
+pub put-outcome-spec : {M : Type 1} → statement M
+put-outcome-spec =
+    tie.close
+    (tie.spec
+    (λ c. search needs)
+    (λ c. search needs)
+    (λ c κs. tt)
+    (λ c. search needs)
+    (λ c. search needs)
+    (λ c κs. tt)
+    (λ c. search needs)
+    (λ c. search needs)
+    (λ c κs. tt)
+    (λ c. search needs)
+    (λ c. search needs)
+    (λ c κs. tt)
+    (λ c. search needs)
+    (λ c. search needs)
+    (λ c κs. tt)
+    (λ c. search needs)
+    (λ c. search needs)
+    (λ c κs. tt)
+    (λ c. search needs)
+    (λ c. search needs)
+    (λ c κs. tt)
+    (λ c. search needs)
+    (λ c. search needs)
+    (λ c κs. tt)
+    (λ c. search needs)
+    (λ c. search needs)
+    (λ c κs. tt)
+    (λ c. search needs)
+    (λ c. search needs)
+    (λ c κs. tt)
+    (λ c. search needs)
+    (λ c. search needs)
+    (λ c κs. tt)
+    (λ c. search needs)
+    (λ c. search needs)
+    (λ c κs. tt)
+    (λ c. rw (c .before .before .before .enum-told .given .1) (put (c .append .ensures)))
+    (λ c. rw (c .before .before .before .enum-told2 .given .1) (put (c .append2 .ensures)))
+    (λ c. rw (c .before .before .before .enum-told3 .given .1) (put (c .append3 .ensures)))
+    (λ c. rw (c .before .before .before .enum-told4 .given .1) (put (c .append4 .ensures)))
+    (λ c. rw (c .before .before .before .enum-told5 .given .1) (put (c .append5 .ensures)))
+    (λ c. rw (c .before .before .before .enum-told6 .given .1) (put (c .append6 .ensures)))
+    (λ c. rw (c .before .before .before .enum-told7 .given .1) (put (c .append7 .ensures)))
+    (λ c. rw (c .before .before .before .enum-told8 .given .1) (put (c .append8 .ensures)))
+    (λ c. rw (c .before .before .before .enum-told9 .given .1) (put (c .append9 .ensures)))
+    (λ c. rw (c .before .before .before .enum-told10 .given .1) (put (c .append10 .ensures)))
+    (λ c. rw (c .before .before .before .enum-told11 .given .1) (put (c .append11 .ensures)))
+    (λ c. rw (c .before .before .before .enum-told12 .given .1) (put (c .append12 .ensures))))

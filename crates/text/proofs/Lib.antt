@@ -1,0 +1,3 @@
+pub mod Laws
+pub mod Copying
+pub mod DecimalLaws
