@@ -1,0 +1,2 @@
+pub mod PerformLaws
+pub mod RecordLaws

@@ -1,0 +1,2 @@
+pub mod Performance
+pub mod InArrays

@@ -1,0 +1,3 @@
+pub mod RunLaws
+pub mod StepLaws
+pub mod LoopLaws

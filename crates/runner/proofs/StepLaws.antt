@@ -1,0 +1,50 @@
+-- A step of the code is a step of the definition: what a record does to the arrays of a well-formed network it does to the lists that they
+-- hold, and the line follows what has been printed. Assumes nothing.
+use mathlib.Core.Path.{_≡_, sym, ap, _∙_}
+use mathlib.Core.Bool.{true}
+use mathlib.Core.List.{List, _++_}
+use Prim.Native.Nat.{ℕ, _+_, _≤_}
+use lib.ListN.{length, take}
+use lib.Seq.{length-take-le}
+use Rattle.io.specs.Counts.{Counts}
+use Rattle.refusal.specs.Rules.{no}
+use native.Mathlib.Omega.{arith}
+use Rattle.text.specs.Text.{pasted, placeAfter}
+use Rattle.text.proofs.Laws.{place-after, take-pasted}
+use Rattle.network.specs.Arrays.{live, wellFormed}
+use Rattle.network.proofs.ArrayLaws.{live-held}
+use Rattle.script.specs.Script.{Entry, end, stop, next, readAt}
+use Rattle.printout.specs.Lines.{lineOf}
+use Rattle.runner.specs.declared.Progress.{Progress}
+use Rattle.records.specs.Performance.{performOf as performOnLists}
+use Rattle.runner.specs.Run.{stepOf}
+use Rattle.records.specs.InArrays.{Effect, performOf}
+use Rattle.runner.specs.Reached.{reached}
+use Rattle.records.proofs.RecordLaws.{on-lists}
+
+-- ---- the three ways of a step
+module _ (script buffer : List ℕ) (p : Progress) where
+  pub step-ended : readAt script (p .at) ≡ end → reached p buffer ≡ stepOf script (reached p buffer)
+  step-ended read = rw read
+
+  module _ (after : List ℕ) (used : ℕ) where
+    pub step-stopped : (number : ℕ) → readAt script (p .at) ≡ stop number → take used after ≡ take (p .used) buffer ++ lineOf (p .ordinal + 1) (no number)
+        → reached (record { network = p .network; at = length script; ordinal = p .ordinal + 1; posted = p .posted; used = used }) after ≡ stepOf script (reached p buffer)
+    step-stopped number read printed = rw (read, printed)
+
+    pub step-performed : (e : Entry) (c : ℕ) (r : Effect) → wellFormed (p .network) ≡ true → readAt script (p .at) ≡ next e c → r ≡ performOf (p .network) e
+        → take used after ≡ take (p .used) buffer ++ lineOf (p .ordinal + 1) (r .said)
+        → reached (record { network = r .network; at = c; ordinal = p .ordinal + 1; posted = p .posted + r .posted; used = used }) after ≡ stepOf script (reached p buffer)
+    step-performed e c r sound read performed printed =
+        rw (read, printed, on-lists (p .network) sound e r performed, live-held (performOnLists (live (p .network)) e .state))
+
+-- ---- a line that is put after what has been printed
+pub line-put : (text after piece line : List ℕ) (at r : ℕ) → (r ≡ placeAfter text at piece) × (after ≡ pasted text at piece) → piece ≡ line
+    → at + 40 ≤ length text → length line ≤ 40 → (take r after ≡ take at text ++ line) × (r ≤ at + 40)
+line-put text after piece line at r (place, written) reads room short =
+    let fits : at + length piece ≤ length text = omega (arith, ap length reads) in
+    (rw (place, written) (take-pasted text at piece fits ∙ ap (λ (l : List ℕ). take at text ++ l) reads), omega (arith, place, place-after text at piece fits, ap length reads))
+
+-- as many bytes as there are of the text
+pub all-counted : (r : ℕ) (text : List ℕ) → r ≤ length text → Counts r text
+all-counted r text inside = (inside, sym (length-take-le r text inside))

@@ -1,0 +1,131 @@
+// A script from its bytes to its printout: the records one after the other from the empty network, a line for each. The printout grows in a
+// buffer that no script fills: a record has three bytes at least, and its line has forty at most.
+ghost use Prim.Native.Nat.{_+_, _≤_, _<_};
+ghost use Rattle.io.specs.Counts.{Counts};
+ghost use Rattle.network.specs.Arrays.{wellFormed};
+ghost use Rattle.printout.specs.Lines.{said, heading, lineOf, lastLine};
+ghost use Rattle.runner.specs.Reached.{reached};
+ghost use Rattle.runner.specs.Run.{stepOf, after, closed, sizeLimit, tooLong, printoutOf};
+ghost use lib.ListN.{length, take};
+ghost use mathlib.Core.Bool.{true};
+ghost use mathlib.Core.List.{_++_};
+ghost use mathlib.Core.Path.{_≡_};
+use network::Network;
+use printout::Said;
+use refusal::Refusal;
+use script::Reading;
+
+// "A script is at most 65,536 bytes."
+pub const SIZE_LIMIT: usize = 65_536;
+
+// How far a run has come: the network, the cursor, the ordinal of the last record, all messages posted, and the bytes printed.
+struct Progress {
+    network: Network,
+    at: usize,
+    ordinal: u32,
+    posted: u32,
+    used: usize,
+}
+
+fn put_line(text: &mut [u8], at: usize, ordinal: u32, what: Said) -> usize
+    requires { ⌜ at + 40 ≤ length (now text) ⌝ }
+    ensures { λ r. ⌜ take r (now (text .exit)) ≡ take at (now (text .entry)) ++ lineOf ordinal (said what) ⌝ }
+    ensures { λ r. ⌜ r ≤ at + 40 ⌝ }
+{
+    let mut line = [0u8; 40];
+    let n = printout::line(ordinal, what, &mut line);
+    text::append(text, at, &line[..n])
+}
+
+fn put_last(text: &mut [u8], at: usize, waiting: u8, posted: u32) -> usize
+    requires { ⌜ at + 40 ≤ length (now text) ⌝ }
+    ensures { λ r. ⌜ take r (now (text .exit)) ≡ take at (now (text .entry)) ++ lastLine waiting posted ⌝ }
+    ensures { λ r. ⌜ r ≤ at + 40 ⌝ }
+{
+    let mut line = [0u8; 40];
+    let n = printout::last_line(waiting, posted, &mut line);
+    text::append(text, at, &line[..n])
+}
+
+// One more record: its line is printed, and the cursor is past it. Where the reading stops, the cursor goes to the end.
+fn step(script: &[u8], text: &mut [u8], p: Progress) -> Progress
+    requires { ⌜ (wellFormed (p .network) ≡ true) × (p .used + 40 ≤ length (now text)) × (p .ordinal < 100_000) × (p .posted < 100_000_000) ⌝ }
+    ensures { λ r. ⌜ reached r (now (text .exit)) ≡ stepOf (now (script .entry)) (reached p (now (text .entry))) ⌝ }
+    ensures { λ r. ⌜ (wellFormed (r .network) ≡ true) × (r .used ≤ p .used + 40) ⌝ }
+{
+    let network = p.network;
+    let at = p.at;
+    let ordinal = p.ordinal + 1;
+    match script::read(script, at) {
+        Reading::End => p,
+        Reading::Stopped(refusal) => Progress {
+            network,
+            at: script.len(),
+            ordinal,
+            posted: p.posted,
+            used: put_line(text, p.used, ordinal, Said::Refused(refusal)),
+        },
+        Reading::Next { record, after } => {
+            let performed = records::perform(network, record);
+            let network = performed.network;
+            let what = performed.said;
+            Progress {
+                network,
+                at: after,
+                ordinal,
+                posted: p.posted + performed.posted,
+                used: put_line(text, p.used, ordinal, what),
+            }
+        }
+    }
+}
+
+// The records of a script one after the other, after the heading, and the last line.
+fn run(script: &[u8], text: &mut [u8], start: usize) -> usize
+    requires { ⌜ (take start (now text) ≡ heading) × (start ≤ 40) × (length (now script) ≤ sizeLimit) × (1_000_000 ≤ length (now text)) ⌝ }
+    ensures { λ r. ⌜ take r (now (text .exit)) ≡ closed (after (now (script .entry)) (length (now (script .entry)))) ⌝ }
+    ensures { λ r. ⌜ r ≤ 1_000_000 ⌝ }
+{
+    let mut p = Progress {
+        network: Network::empty(),
+        at: 0,
+        ordinal: 0,
+        posted: 0,
+        used: start,
+    };
+    while p.at < script.len() {
+        p = step(script, text, p);
+    }
+    let network = p.network;
+    put_last(text, p.used, network.waiting, p.posted)
+}
+
+// A script that is too long is refused as a whole.
+fn refuse_script(text: &mut [u8], start: usize) -> usize
+    requires { ⌜ (take start (now text) ≡ heading) × (start ≤ 40) × (1_000_000 ≤ length (now text)) ⌝ }
+    ensures { λ r. ⌜ take r (now (text .exit)) ≡ tooLong ⌝ }
+    ensures { λ r. ⌜ r ≤ 1_000_000 ⌝ }
+{
+    let used = put_line(text, start, 0, Said::Refused(Refusal::ScriptTooLong));
+    put_last(text, used, 0, 0)
+}
+
+// A buffer for a printout, as long as `printout` takes it.
+pub fn buffer() -> [u8; 1048576]
+    ensures { λ r. ⌜ 1_048_576 ≡ length r ⌝ }
+{
+    [0; 1048576]
+}
+
+// The printout of a whole script, and how many bytes it has. No printout is longer than the buffer.
+pub fn printout(script: &[u8], text: &mut [u8; 1048576]) -> usize
+    ensures { λ r. ⌜ Counts r (now (text .exit)) ⌝ }
+    ensures { λ r. ⌜ take r (now (text .exit)) ≡ printoutOf (now (script .entry)) ⌝ }
+{
+    let start = text::append(text, 0, b"ring 1\n");
+    if SIZE_LIMIT < script.len() {
+        refuse_script(text, start)
+    } else {
+        run(script, text, start)
+    }
+}
