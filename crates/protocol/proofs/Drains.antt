@@ -108,7 +108,7 @@ drains s w (suc budget) =
     (eq-zero-or-pos (length (s .messages)))
 
 -- ---- its deliveries as calls
-run-append : (h : History) (calls more : List Call) → run h (calls ++ more) ≡ run (run h calls) more
+pub run-append : (h : History) (calls more : List Call) → run h (calls ++ more) ≡ run (run h calls) more
 run-append h [] more = refl
 run-append h (call ∷ calls) more = run-append (advanced h call) calls more
 

@@ -26,3 +26,11 @@ postsOf s call = ruled (rulesOf s call) (λ n. []) (stepPosts s call)
 abbrev pub posted : State → List Call → ℕ
 posted s [] = 0
 posted s (call ∷ calls) = length (postsOf s call) + posted (applyOf s call .state) calls
+
+-- a delivery takes a message from those that wait, and no other call does
+abbrev pub takes : Call → ℕ
+takes (Declare key) = 0
+takes (Create u) = 0
+takes (Join u p q) = 0
+takes (Leave u) = 0
+takes (Deliver place) = 1

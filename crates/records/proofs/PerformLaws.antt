@@ -9,7 +9,7 @@ use Prim.Native.Nat.{ℕ, _+_, _≤_, _<_}
 use native.Mathlib.Omega.{arith}
 use lib.ListN.{length}
 use borrow.Author.Tests.{le-ltb, lt-ltb}
-use Rattle.truth.proofs.TestLaws.{decided, holds, not-both, bit-true}
+use Rattle.truth.proofs.TestLaws.{decided, holds, not-both}
 use Rattle.refusal.specs.Rules.{Coded, done, no, first}
 use Rattle.protocol.specs.declared.Call.{Call}
 use Rattle.protocol.specs.declared.Call.the-variants.{Deliver}
@@ -17,10 +17,10 @@ use Rattle.protocol.specs.declared.Reply.{Reply}
 use Rattle.protocol.specs.State.{State, wellFormed as listsAreWellFormed}
 use Rattle.protocol.specs.Calls.{applyOf as applyToLists}
 use Rattle.protocol.specs.History.{accepted}
-use Rattle.protocol.specs.Posts.{posted}
+use Rattle.protocol.specs.Posts.{posted, takes}
 use Rattle.protocol.specs.Questions.{ownerOf as ownerInLists}
 use Rattle.protocol.specs.Drain.{Drained, places, deliverAll, drained, drainOf as drainLists}
-use Rattle.protocol.proofs.Posted.{isOrder, order-adds, delivery-takes, deliveries-take, refused-posts}
+use Rattle.protocol.proofs.Posted.{accepted-adds, deliveries-take, refused-posts}
 use Rattle.protocol.proofs.Drains.{drains}
 use Rattle.network.specs.declared.Network.{Network}
 use Rattle.network.specs.Arrays.{live, wellFormed, held}
@@ -97,48 +97,27 @@ module _ (n : Network) (l : Lengths n) where
         (λ f. absurd (refused-not-done e (ap (λ (r : Applied Reply). r .said) (malformed n call f))))
         (decided (wellFormed n))
 
-    -- a call whose posts are the messages that wait after it and did not before, and those that it took
-    call-accepted : (taken k : ℕ) (r : Reply) → applyOf n call .said ≡ done r → n .waiting + k ≡ taken + applyOf n call .network .waiting
-        → taken + length (applyToLists (live n) call .state .messages) ≡ length (live n .messages) + posted (live n) (call ∷ [])
-        → told reply (applyOf n call) k ≡ guarded n (calling (live n) call)
-    call-accepted taken k r e counts adds =
-        call-told k
-        (λ t. omega (arith, waits-before t, waits-after t))
-        (λ f. absurd (not-both (accepts-formed r e) f))
+    adds : (r : Reply) → applyOf n call .said ≡ done r → takes call + applyOf n call .network .waiting ≡ n .waiting + posted (live n) (call ∷ [])
+    adds r e =
+        let t = accepts-formed r e in
+        omega (arith, waits-before t, waits-after t, accepted-adds (live n) call (ap accepted (sym (said-after t) ∙ e)))
 
     -- of what the code hands back
     module _ (r : Applied Reply) (e : r ≡ applyOf n call) where
       pub call-refused : (number : ℕ) → r .said ≡ no number → told reply r 0 ≡ guarded n (calling (live n) call)
       call-refused number said = rw e (said-refused number (rw e at said))
 
-      pub order-accepted : isOrder call ≡ true → (k : ℕ) (a : Reply) → r .said ≡ done a → n .waiting + k ≡ 0 + r .network .waiting
+      pub call-keeps : (taken : ℕ) → taken ≡ takes call → (a : Reply) → r .said ≡ done a → n .waiting ≤ taken + r .network .waiting
+      call-keeps taken t a said = rw e (omega (arith, adds a (rw e at said)))
+
+      pub call-accepted : (taken : ℕ) → taken ≡ takes call → (k : ℕ) (a : Reply) → r .said ≡ done a → n .waiting + k ≡ taken + r .network .waiting
           → told reply r k ≡ guarded n (calling (live n) call)
-      order-accepted order k a said counts = rw e (call-accepted 0 k a (rw e at said) (rw e at counts) (omega (arith, order-adds (live n) call order)))
-
-      -- no fewer messages wait after it
-      pub order-grows : isOrder call ≡ true → (a : Reply) → r .said ≡ done a → n .waiting ≤ 0 + r .network .waiting
-      order-grows order a said =
-          let t = accepts-formed a (rw e at said) in
-          rw e (omega (arith, waits-before t, waits-after t, order-adds (live n) call order))
-
-  -- ---- a delivery
-  module _ (place : ℕ) where
-    takes : (r : Reply) → applyOf n (Deliver place) .said ≡ done r
-        → 1 + length (applyToLists (live n) (Deliver place) .state .messages) ≡ length (live n .messages) + posted (live n) (Deliver place ∷ [])
-    takes r e =
-        let t = accepts-formed (Deliver place) r e in
-        let done : accepted (applyToLists (live n) (Deliver place) .said) ≡ true = ap accepted (sym (said-after (Deliver place) t) ∙ e) in
-        omega (arith, delivery-takes (live n) place, bit-true done)
-
-    module _ (r : Applied Reply) (e : r ≡ applyOf n (Deliver place)) where
-      pub delivery-accepted : (k : ℕ) (a : Reply) → r .said ≡ done a → n .waiting + k ≡ 1 + r .network .waiting
-          → told reply r k ≡ guarded n (calling (live n) (Deliver place))
-      delivery-accepted k a said counts = rw e (call-accepted (Deliver place) 1 k a (rw e at said) (rw e at counts) (takes a (rw e at said)))
-
-      pub delivery-keeps : (a : Reply) → r .said ≡ done a → n .waiting ≤ 1 + r .network .waiting
-      delivery-keeps a said =
-          let t = accepts-formed (Deliver place) a (rw e at said) in
-          rw e (omega (arith, waits-before t, waits-after (Deliver place) t, takes a (rw e at said)))
+      call-accepted taken t k a said counts =
+          let there : n .waiting + k ≡ taken + applyOf n call .network .waiting = rw e at counts in
+          rw e
+          (call-told k
+          (λ _. omega (arith, adds a (rw e at said)))
+          (λ f. absurd (not-both (accepts-formed a (rw e at said)) f)))
 
   -- ---- a drain
   module _ (budget : ℕ) where

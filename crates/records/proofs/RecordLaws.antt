@@ -1,14 +1,14 @@
 -- A record leaves the network well formed, on the arrays as on the lists, and posts no more than a few messages. Assumes nothing.
 use mathlib.Core.Path.{_≡_, refl, _∙_}
 use mathlib.Core.Logic.{⊎-elim}
-use mathlib.Core.Bool.{Bool, true, false, not}
+use mathlib.Core.Bool.{true, not}
 use mathlib.Core.List.{List, [], _∷_, map}
 use mathlib.Core.Option.{Option, none, some}
 use Prim.Native.Nat.{ℕ, _+_, _≤_}
 use native.Mathlib.Omega.{arith}
 use lib.ListN.{length}
 use lib.Dec.{T}
-use Rattle.truth.specs.Tests.{bit, count}
+use Rattle.truth.specs.Tests.{count}
 use Rattle.truth.proofs.TestLaws.{decided, is-true, holds}
 use Rattle.refusal.specs.Rules.{first, settled}
 use Rattle.protocol.specs.declared.Call.{Call}
@@ -17,11 +17,11 @@ use Rattle.node.specs.declared.Message.{Message}
 use Rattle.protocol.specs.State.{State, isRequest, wellFormed}
 use Rattle.protocol.specs.Calls.{applyOf}
 use Rattle.protocol.specs.History.{accepted}
-use Rattle.protocol.specs.Posts.{posted}
+use Rattle.protocol.specs.Posts.{posted, takes}
 use Rattle.protocol.specs.Drain.{places, deliverAll, drainOf}
 use Rattle.protocol.proofs.Facts.{formed}
 use Rattle.protocol.proofs.Lively.{steady}
-use Rattle.protocol.proofs.Posted.{order-adds, delivery-takes, deliveries-take}
+use Rattle.protocol.proofs.Posted.{accepted-adds, refused-adds, deliveries-take}
 use Rattle.network.specs.declared.Network.{Network}
 use Rattle.network.specs.Arrays.{live, wellFormed as arraysAreWellFormed}
 use Rattle.network.proofs.ArrayLaws.{held-well-formed, formed as arrays-formed}
@@ -61,9 +61,12 @@ module _ (s : State) (w : T (wellFormed s)) where
       go (some n) = w
 
 -- ---- how many messages a record posts
-at-most-one : (b : Bool) → bit b ≤ 1
-at-most-one true = omega arith
-at-most-one false = omega arith
+at-most-one : (call : Call) → takes call ≤ 1
+at-most-one (Declare key) = omega arith
+at-most-one (Create u) = omega arith
+at-most-one (Join u p q) = omega arith
+at-most-one (Leave u) = omega arith
+at-most-one (Deliver place) = omega arith
 
 counted-apart : (ms : List Message) → count (λ m. isRequest (m .kind)) ms + count (λ m. not (isRequest (m .kind))) ms ≡ length ms
 counted-apart [] = refl
@@ -71,11 +74,11 @@ counted-apart (m ∷ ms) = ⊎-elim (λ t. rw t (omega (arith, counted-apart ms)
 
 module _ (s : State) (w : T (wellFormed s)) where
   call-posts : (call : Call) → posted s (call ∷ []) ≤ 256
-  call-posts (Declare key) = omega (arith, order-adds s (Declare key) refl, few-waiting _ (steady s w .kept (Declare key)))
-  call-posts (Create u) = omega (arith, order-adds s (Create u) refl, few-waiting _ (steady s w .kept (Create u)))
-  call-posts (Join u p q) = omega (arith, order-adds s (Join u p q) refl, few-waiting _ (steady s w .kept (Join u p q)))
-  call-posts (Leave u) = omega (arith, order-adds s (Leave u) refl, few-waiting _ (steady s w .kept (Leave u)))
-  call-posts (Deliver place) = omega (arith, delivery-takes s place, at-most-one (accepted (applyOf s (Deliver place) .said)), few-waiting _ (steady s w .kept (Deliver place)))
+  call-posts call =
+      ⊎-elim
+      (λ t. omega (arith, accepted-adds s call t, at-most-one call, few-waiting _ (steady s w .kept call)))
+      (λ f. omega (arith, refused-adds s call f .1))
+      (decided (accepted (applyOf s call .said)))
 
   drain-posts : (budget : ℕ) → posted s (map Deliver (places budget s)) ≤ 256
   drain-posts budget =

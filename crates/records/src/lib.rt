@@ -2,12 +2,10 @@
 // taken apart, and a refusal leaves the record at once, with nothing posted. `specs/` says it over lists, with the rules of the crate
 // `protocol`.
 ghost use mathlib.Core.Path.{_≡_};
-ghost use mathlib.Core.Bool.{true};
 ghost use Prim.Native.Nat.{_+_, _≤_};
 ghost use Rattle.refusal.specs.Code.{code};
 ghost use Rattle.serial.specs.Serial.{coded};
-ghost use Rattle.protocol.specs.declared.Call.the-variants.{Deliver};
-ghost use Rattle.protocol.proofs.Posted.{isOrder};
+ghost use Rattle.protocol.specs.Posts.{takes};
 ghost use Rattle.network.specs.Arrays.{live};
 ghost use Rattle.calls.specs.Outcomes.{answered, ran as ranSaid};
 ghost use Rattle.questions.specs.Answers.{ownerSaid};
@@ -88,47 +86,25 @@ fn posted_between(before: u8, delivered: u16, after: u8) -> u32
     delivered as u32 + after as u32 - before as u32
 }
 
-// A call that is no delivery.
-fn order(network: Network, call: Call) -> Performed
-    requires { ⌜ isOrder call ≡ true ⌝ }
+// A call, with how many messages it takes from those that wait.
+fn call(network: Network, call: Call, taken: u16) -> Performed
+    requires { ⌜ taken ≡ takes call ⌝ }
     ensures { λ r. ⌜ performed r ≡ guarded network (calling (live network) call) ⌝ }
 {
     let called = calls::apply(network, call);
     let after = called.network;
     let answer = called.answer;
-    let said = reply_said(answer);
-    let Answer::Done(_) = answer else {
+    let Answer::Done(reply) = answer else {
         return Performed {
             network: after,
-            said,
+            said: reply_said(answer),
             posted: 0,
         };
     };
     Performed {
         network: after,
-        said,
-        posted: posted_between(network.waiting, 0, after.waiting),
-    }
-}
-
-fn deliver(network: Network, place: u8) -> Performed
-    ensures { λ r. ⌜ performed r ≡ guarded network (calling (live network) (Deliver place)) ⌝ }
-{
-    let called = calls::deliver(network, place);
-    let after = called.network;
-    let answer = called.answer;
-    let said = reply_said(answer);
-    let Answer::Done(_) = answer else {
-        return Performed {
-            network: after,
-            said,
-            posted: 0,
-        };
-    };
-    Performed {
-        network: after,
-        said,
-        posted: posted_between(network.waiting, 1, after.waiting),
+        said: Said::Replied(reply),
+        posted: posted_between(network.waiting, taken, after.waiting),
     }
 }
 
@@ -138,17 +114,16 @@ fn drain(network: Network, budget: u16) -> Performed
     let drained = calls::drain(network, budget);
     let after = drained.network;
     let answer = drained.answer;
-    let said = drain_said(answer);
-    let DrainAnswer::Ran { made, left: _ } = answer else {
+    let DrainAnswer::Ran { made, left } = answer else {
         return Performed {
             network: after,
-            said,
+            said: drain_said(answer),
             posted: 0,
         };
     };
     Performed {
         network: after,
-        said,
+        said: Said::Ran { made, left },
         posted: posted_between(network.waiting, made, after.waiting),
     }
 }
@@ -156,9 +131,17 @@ fn drain(network: Network, budget: u16) -> Performed
 fn ask(network: Network, start: u8, serial: u32) -> Performed
     ensures { λ r. ⌜ performed r ≡ guarded network (asking (live network) start serial) ⌝ }
 {
+    let answer = questions::owner(network, start, serial);
+    let OwnerAnswer::Found { node, hops } = answer else {
+        return Performed {
+            network,
+            said: owner_said(answer),
+            posted: 0,
+        };
+    };
     Performed {
         network,
-        said: owner_said(questions::owner(network, start, serial)),
+        said: Said::Found { node, hops },
         posted: 0,
     }
 }
@@ -167,7 +150,7 @@ fn declare(network: Network, serial: Serial) -> Performed
     ensures { λ r. ⌜ performed r ≡ guarded network (performOnLists (live network) (declare (coded serial))) ⌝ }
 {
     match serial {
-        Serial::Value(key) => order(network, Call::Declare(key)),
+        Serial::Value(key) => call(network, Call::Declare(key), 0),
         Serial::Refused(refusal) => refuse_field(network, refusal),
     }
 }
@@ -190,10 +173,10 @@ pub fn perform(network: Network, asked: Record) -> Performed
 {
     match asked {
         Record::Declare(serial) => declare(network, serial),
-        Record::Create(node) => order(network, Call::Create(node)),
-        Record::Join { node, left, right } => { order(network, Call::Join { node, left, right }) }
-        Record::Leave(node) => order(network, Call::Leave(node)),
-        Record::Deliver(place) => deliver(network, place),
+        Record::Create(node) => call(network, Call::Create(node), 0),
+        Record::Join { node, left, right } => call(network, Call::Join { node, left, right }, 0),
+        Record::Leave(node) => call(network, Call::Leave(node), 0),
+        Record::Deliver(place) => call(network, Call::Deliver(place), 1),
         Record::Owner { start, serial } => owner(network, start, serial),
         Record::Drain(budget) => drain(network, budget),
     }

@@ -1,3 +1,4 @@
 pub mod RunLaws
 pub mod StepLaws
 pub mod LoopLaws
+pub mod Theorem

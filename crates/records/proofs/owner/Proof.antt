@@ -1,3 +1,4 @@
+-- `records::owner` meets its contract: the start's turn comes first, then the serial's, and then the question is asked. Assumes nothing.
 use borrow.Author.Needs.{needs}
 use mathlib.Core.Path.{ap, _∙_}
 use Rattle.serial.specs.Serial.{coded}

@@ -1,12 +1,7 @@
+-- `records::owner_said` meets its contract, case by case. Assumes nothing.
 use borrow.Author.Needs.{needs}
 use Rattle.records.proofs.owner_said.Statement.{statement}
 use Rattle.records.proofs.owner_said.Tie as tie
-
-enum-known-answer : tie.Need-enum-known-answer
-enum-known-answer c = search needs
-
-enum-known-answer-2 : tie.Need-enum-known-answer-2
-enum-known-answer-2 c = search needs
 
 returns : tie.Need-returns
 returns c = rw (c .before .answer .given .1)
@@ -15,4 +10,4 @@ returns-2 : tie.Need-returns-2
 returns-2 c = rw (c .before .answer2 .given .1)
 
 pub owner-said-spec : {M : Type 1} → statement M
-owner-said-spec = tie.close (tie.spec enum-known-answer enum-known-answer-2 returns returns-2)
+owner-said-spec = tie.close (tie.spec (λ c. search needs) (λ c. search needs) returns returns-2)

@@ -14,19 +14,19 @@ returns c = rw (c .before .before .asked .given .1) (c .declare .ensures)
 
 returns-2 : tie.Need-returns-2
 unfolding performOf
-returns-2 c = rw (c .before .before .asked2 .given .1) (c .order .ensures ∙ record-cleared (c .before .before .before .before .args .network) (create _) (λ t. refl))
+returns-2 c = rw (c .before .before .asked2 .given .1) (c .call .ensures ∙ record-cleared (c .before .before .before .before .args .network) (create _) (λ t. refl))
 
 returns-3 : tie.Need-returns-3
 unfolding performOf
-returns-3 c = rw (c .before .before .asked3 .given .1) (c .order2 .ensures ∙ record-cleared (c .before .before .before .before .args .network) (join _ _ _) (λ t. refl))
+returns-3 c = rw (c .before .before .asked3 .given .1) (c .call2 .ensures ∙ record-cleared (c .before .before .before .before .args .network) (join _ _ _) (λ t. refl))
 
 returns-4 : tie.Need-returns-4
 unfolding performOf
-returns-4 c = rw (c .before .before .asked4 .given .1) (c .order3 .ensures ∙ record-cleared (c .before .before .before .before .args .network) (leave _) (λ t. refl))
+returns-4 c = rw (c .before .before .asked4 .given .1) (c .call3 .ensures ∙ record-cleared (c .before .before .before .before .args .network) (leave _) (λ t. refl))
 
 returns-5 : tie.Need-returns-5
 unfolding performOf
-returns-5 c = rw (c .before .before .asked5 .given .1) (c .deliver .ensures ∙ record-cleared (c .before .before .before .before .args .network) (deliver _) (λ t. refl))
+returns-5 c = rw (c .before .before .asked5 .given .1) (c .call4 .ensures ∙ record-cleared (c .before .before .before .before .args .network) (deliver _) (λ t. refl))
 
 returns-6 : tie.Need-returns-6
 unfolding performOf
@@ -49,7 +49,7 @@ perform-spec =
     (λ c. search needs)
     (λ c κs. refl)
     (λ c. search needs)
-    (λ c κs. tt)
+    (λ c κs. refl)
     (λ c. search needs)
     (λ c κs. tt)
     (λ c. search needs)

@@ -1,6 +1,6 @@
 -- `runner::printout` meets its contract: the heading is put first, and then what follows it in a script within the limit or over it.
 -- Assumes nothing.
-use mathlib.Core.Path.{_≡_, refl, sym, _∙_}
+use mathlib.Core.Path.{refl, sym, _∙_}
 use native.Mathlib.Omega.{arith}
 use borrow.Author.Needs.{needs}
 use Rattle.runner.proofs.StepLaws.{line-put, all-counted}

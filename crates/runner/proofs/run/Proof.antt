@@ -1,9 +1,8 @@
 -- `runner::run` meets its contract: at each turn it has come as far as the definition after as many records, and each record
 -- moves the cursor on. Assumes nothing.
-use mathlib.Core.Path.{_≡_, refl, sym, ap, _∙_}
+use mathlib.Core.Path.{_≡_, refl, _∙_}
 use Prim.Native.Nat.{_-_}
 use native.Mathlib.Omega.{arith}
-use borrow.Author.Needs.{needs}
 use lib.ListN.{length}
 use Rattle.network.proofs.Lengths.{lengths}
 use Rattle.runner.proofs.LoopLaws.{Turn, first-turn, room, may-step, next-cursor, next-turn, whole-printout}

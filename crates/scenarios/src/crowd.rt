@@ -1,0 +1,61 @@
+// The parts of scripts that are long because they repeat: all 32 nodes are declared, many of them join, and some leave again, while most of the
+// messages that this posts go on waiting. Each function puts records into a script, and answers the place after them.
+ghost use Prim.Native.Nat.{_≤_};
+ghost use Rattle.io.specs.Counts.{Counts};
+
+pub(crate) fn put(script: &mut [u8; 4096], at: usize, records: &[u8]) -> usize
+    requires { ⌜ Counts at (now script) ⌝ }
+    ensures { λ r. ⌜ Counts r (now (script .exit)) ⌝ }
+{
+    text::append(script, at, records)
+}
+
+// Node i has the key 32 - i. The keys fall, so that each node may join between node 0 and the node before it.
+pub(crate) fn declare_all(script: &mut [u8; 4096]) -> usize
+    ensures { λ r. ⌜ Counts r (now (script .exit)) ⌝ }
+{
+    let mut at: usize = 0;
+    for node in 0..32 {
+        at = put(script, at, &[b'B', b'N', 32 - node, 0, 0, 0]);
+    }
+    at
+}
+
+// Node 0 is created, nodes 1 to `last` ask it to join, and RD delivers just these requests. Each is granted, since it names as right neighbour
+// the node that came in before it. Then 2 * last messages wait: of node i the left notice to its right at 2 * i - 2, and the answer at 2 * i - 1.
+fn join_all(script: &mut [u8; 4096], at: usize, last: u8) -> usize
+    requires { ⌜ Counts at (now script) ⌝ }
+    ensures { λ r. ⌜ Counts r (now (script .exit)) ⌝ }
+{
+    let mut at = put(script, at, b"CR\x00");
+    for before in 0..last {
+        at = put(script, at, &[b'J', b'N', before + 1, 0, before]);
+    }
+    put(script, at, &[b'R', b'D', last, 0])
+}
+
+// From node `last` downwards so many nodes leave again: each hears its answer and asks node 0 to leave, and this request, the last message, is
+// delivered and granted. Each of them adds one to the messages that wait.
+fn leave_again(script: &mut [u8; 4096], at: usize, last: u8, leavers: u8) -> usize
+    requires { ⌜ Counts at (now script) × (leavers ≤ last) × (last ≤ 31) ⌝ }
+    ensures { λ r. ⌜ Counts r (now (script .exit)) ⌝ }
+{
+    let mut at = at;
+    for gone in 0..leavers {
+        let node = last - gone;
+        at = put(script, at, &[b'D', b'L', 2 * node - 1]);
+        at = put(script, at, &[b'L', b'V', node]);
+        at = put(script, at, &[b'D', b'L', 2 * last + gone - 1]);
+    }
+    at
+}
+
+// After these records 2 * joiners + leavers messages wait.
+pub(crate) fn join_and_leave(script: &mut [u8; 4096], joiners: u8, leavers: u8) -> usize
+    requires { ⌜ (leavers ≤ joiners) × (joiners ≤ 31) ⌝ }
+    ensures { λ r. ⌜ Counts r (now (script .exit)) ⌝ }
+{
+    let at = declare_all(script);
+    let at = join_all(script, at, joiners);
+    leave_again(script, at, joiners, leavers)
+}

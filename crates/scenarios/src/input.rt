@@ -1,0 +1,77 @@
+// The refusals from the input. Only 1 and 2 stop the reading: after each of the others but 7 a later record is done.
+ghost use mathlib.Core.Path.{_≡_};
+ghost use lib.ListN.{length};
+use crate::show;
+
+pub(crate) fn marks() {
+    show(b"the empty script", b"");
+    show(
+        b"no 1: an unknown mark ends the reading",
+        b"BC\x00\x00\x10\x00\
+          XX\
+          BC\x00\x00\x20\x00",
+    );
+    show(b"no 1: a mark in lower case", b"bc\x00\x00\x10\x00");
+    show(
+        b"no 2: one byte of a mark",
+        b"BC\x00\x00\x10\x00\
+          B",
+    );
+    show(
+        b"no 2: a record without its last byte",
+        b"BC\x00\x00\x10\x00\
+          BC\x00\x00\x20",
+    );
+}
+
+pub(crate) fn fields() {
+    show(
+        b"no 3: a digit above 9",
+        b"BC\xa0\x00\x00\x00\
+          BC\x00\x00\x00\x0a\
+          BC\x00\x00\x10\x00\
+          CR\x00\
+          OC\x00\x00\x00\x00\x0a\
+          OC\x00\x00\x00\x00\x09",
+    );
+    show(
+        b"no 4: a serial above 99,999,999",
+        b"BN\x00\xe1\xf5\x05\
+          BN\xff\xe0\xf5\x05\
+          CR\x00\
+          ON\x00\x00\xe1\xf5\x05\
+          ON\x00\xff\xe0\xf5\x05",
+    );
+    // Each field that names a node, and a question with a digit above 9 as well: the start comes first.
+    show(
+        b"no 5: node 2 is not declared",
+        b"BC\x00\x00\x10\x00\
+          BC\x00\x00\x20\x00\
+          CR\x02\
+          JN\x02\x00\x00\
+          JN\x01\x02\x00\
+          JN\x01\x00\x02\
+          LV\x02\
+          OC\x02\x00\x00\x10\x00\
+          ON\x02\x00\x00\x10\x00\
+          OC\x02\x00\x00\x00\x0a\
+          CR\x00",
+    );
+}
+
+// One byte more than a script may have.
+fn long_buffer() -> [u8; 65537]
+    ensures { λ r. ⌜ 65_537 ≡ length r ⌝ }
+{
+    [0; 65537]
+}
+
+// Both scripts begin with a declaration and go on with zeros, which are no mark.
+pub(crate) fn sizes() {
+    let mut too_long = long_buffer();
+    text::append(&mut too_long, 0, b"BC\x00\x00\x10\x00");
+    show(b"no 7: 65,537 bytes", &too_long);
+    let mut longest = io::large_buffer();
+    text::append(&mut longest, 0, b"BC\x00\x00\x10\x00");
+    show(b"65,536 bytes are read", &longest);
+}

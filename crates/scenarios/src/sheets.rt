@@ -1,0 +1,112 @@
+// The three example sheets of the folder `examples`, one record to a line. There each record has a comment that says what it does, and
+// beside each sheet stands its printout, which is the same.
+use crate::show;
+
+pub(crate) fn wrong_serial_form() {
+    show(
+        b"wrong-serial-form",
+        b"BC\x00\x00\x12\x34\
+          BN\x00\x00\x12\x34\
+          BN\x34\x12\x00\x00\
+          BN\xd2\x04\x00\x00\
+          BC\xd2\x04\x00\x00\
+          BC\x00\x00\x00\x0a\
+          BC\x10\x00\x00\x00\
+          BC\x00\x00\x00\x10\
+          BN\x00\x00\x00\x10\
+          BN\x0a\x00\x00\x00\
+          BC\x99\x99\x99\x99\
+          BN\x99\x99\x99\x99\
+          BN\xff\xe0\xf5\x05\
+          BN\x00\xe1\xf5\x05\
+          CR\x00\
+          JN\x01\x00\x00\
+          RD\xff\xff\
+          OC\x00\x00\x00\x13\x00\
+          ON\x00\x14\x05\x00\x00\
+          ON\x00\x00\x00\x13\x00\
+          OC\x00\x14\x05\x00\x00\
+          OC\x00\x00\x00\x00\x0a\
+          OC\x09\x00\x00\x00\x0a",
+    );
+}
+
+pub(crate) fn join_and_leave() {
+    show(
+        b"join-and-leave",
+        b"BC\x00\x00\x10\x00\
+          BC\x00\x00\x20\x00\
+          CR\x00\
+          OC\x00\x00\x00\x25\x00\
+          JN\x01\x00\x00\
+          OC\x00\x00\x00\x25\x00\
+          OC\x01\x00\x00\x25\x00\
+          DL\x00\
+          OC\x00\x00\x00\x25\x00\
+          OC\x01\x00\x00\x25\x00\
+          DL\x01\
+          DL\x00\
+          OC\x00\x00\x00\x19\x99\
+          OC\x00\x00\x00\x20\x00\
+          OC\x00\x00\x00\x09\x99\
+          LV\x01\
+          OC\x01\x00\x00\x25\x00\
+          DL\x00\
+          OC\x00\x00\x00\x25\x00\
+          OC\x01\x00\x00\x25\x00\
+          DL\x00\
+          DL\x00\
+          LV\x00\
+          OC\x00\x00\x00\x25\x00",
+    );
+}
+
+pub(crate) fn four_at_once() {
+    show(
+        b"four-at-once",
+        b"BC\x00\x00\x10\x00\
+          BC\x00\x00\x20\x00\
+          BC\x00\x00\x30\x00\
+          BC\x00\x00\x40\x00\
+          BC\x00\x00\x50\x00\
+          CR\x00\
+          JN\x01\x00\x00\
+          JN\x02\x00\x00\
+          JN\x03\x00\x00\
+          JN\x04\x00\x00\
+          DL\x02\
+          DL\x00\
+          DL\x01\
+          DL\x00\
+          JN\x01\x00\x03\
+          DL\x02\
+          DL\x02\
+          JN\x04\x03\x00\
+          DL\x03\
+          DL\x01\
+          DL\x02\
+          DL\x01\
+          JN\x04\x03\x00\
+          DL\x01\
+          DL\x01\
+          DL\x00\
+          DL\x00\
+          JN\x01\x00\x03\
+          JN\x02\x00\x03\
+          DL\x00\
+          DL\x00\
+          OC\x00\x00\x00\x25\x00\
+          DL\x02\
+          DL\x01\
+          JN\x02\x01\x03\
+          RD\xff\xff\
+          OC\x00\x00\x00\x19\x99\
+          OC\x00\x00\x00\x25\x00\
+          OC\x00\x00\x00\x39\x99\
+          OC\x00\x00\x00\x40\x00\
+          OC\x00\x99\x99\x99\x99\
+          OC\x00\x00\x00\x00\x00\
+          OC\x02\x00\x00\x00\x00\
+          DL\x00",
+    );
+}

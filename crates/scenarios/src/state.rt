@@ -1,0 +1,125 @@
+// The refusals from the state; 20 is among the fitter's cases. After each of them a later record is done.
+use crate::crowd;
+use crate::show;
+
+pub(crate) fn orders() {
+    show(
+        b"no 21: a key that is taken",
+        b"BC\x00\x00\x10\x00\
+          BN\xe8\x03\x00\x00\
+          BC\x00\x00\x20\x00",
+    );
+    show(
+        b"no 22: a creation while a node is not out",
+        b"BC\x00\x00\x10\x00\
+          BC\x00\x00\x20\x00\
+          CR\x00\
+          CR\x00\
+          CR\x01\
+          LV\x00\
+          CR\x01",
+    );
+    // Node 0 is in, and node 1 is joining already.
+    show(
+        b"no 23: a join of a node that is not out",
+        b"BC\x00\x00\x10\x00\
+          BC\x00\x00\x20\x00\
+          CR\x00\
+          JN\x00\x01\x01\
+          JN\x01\x00\x00\
+          JN\x01\x00\x00\
+          DL\x00",
+    );
+    // The key of node 2 is above both, or is one of the two.
+    show(
+        b"no 24: a join whose key is not between",
+        b"BC\x00\x00\x10\x00\
+          BC\x00\x00\x20\x00\
+          BC\x00\x00\x30\x00\
+          CR\x00\
+          JN\x02\x00\x01\
+          JN\x02\x00\x02\
+          JN\x02\x00\x00",
+    );
+    // Node 1 joins and leaves, and node 0 leaves alone, before it hears of either. Then it can neither be created nor join.
+    show(
+        b"no 25: a left notice waits for node 0",
+        b"BC\x00\x00\x10\x00\
+          BC\x00\x00\x20\x00\
+          CR\x00\
+          JN\x01\x00\x00DL\x00DL\x01\
+          LV\x01DL\x01DL\x02\
+          LV\x00\
+          CR\x00\
+          CR\x01\
+          JN\x00\x01\x01\
+          DL\x00DL\x00\
+          JN\x00\x01\x01",
+    );
+    // It is out, joining or leaving.
+    show(
+        b"no 26: a leave of a node that is not in",
+        b"BC\x00\x00\x10\x00\
+          BC\x00\x00\x20\x00\
+          LV\x00\
+          CR\x00\
+          JN\x01\x00\x00\
+          LV\x01\
+          RD\xff\xff\
+          LV\x01\
+          LV\x01\
+          DL\x00",
+    );
+}
+
+// Nodes 22 and 23 ask to join, and 64 messages wait: a join of node 24, a leave of node 0 and the delivery of the request of 22 are refused.
+// Then node 1 leaves, the last that had joined; 64 wait again, and node 0, now alone, leaves too.
+pub(crate) fn full_queue() {
+    let mut script = io::buffer();
+    let used = crowd::join_and_leave(&mut script, 21, 20);
+    let used = crowd::put(
+        &mut script,
+        used,
+        b"JN\x16\x00\x01\
+          JN\x17\x00\x01\
+          RD\x00\x00\
+          JN\x18\x00\x01\
+          LV\x00\
+          DL\x3e\
+          DL\x01LV\x01\
+          DL\x00DL\x3e\
+          RD\x00\x00\
+          LV\x00\
+          RD\xff\xff\
+          JN\x18\x00\x01",
+    );
+    show(
+        b"no 28: with 64 waiting, a join, a leave, a delivery; a lone node leaves",
+        &script[..used],
+    );
+}
+
+pub(crate) fn deliveries_and_questions() {
+    show(
+        b"no 29: no message at that place",
+        b"BC\x00\x00\x10\x00\
+          BC\x00\x00\x20\x00\
+          CR\x00\
+          DL\x00\
+          JN\x01\x00\x00\
+          DL\x01\
+          DL\x00",
+    );
+    // Node 0 is out, and node 1 is joining; once that is granted it is asked.
+    show(
+        b"no 30: a question from a node not inserted",
+        b"BC\x00\x00\x10\x00\
+          BC\x00\x00\x20\x00\
+          OC\x00\x00\x00\x25\x00\
+          CR\x00\
+          JN\x01\x00\x00\
+          OC\x01\x00\x00\x25\x00\
+          DL\x00\
+          OC\x01\x00\x00\x25\x00",
+    );
+}
