@@ -11,22 +11,28 @@ returns : tie.Need-returns
 returns c =
     let called = c .before .before .before .before in
     let start = called .before in
+    let l = lengths _ _ (start .good .0) in
     rw (c .reply-said .ensures)
-    (call-refused (start .args .network) (lengths _ _ (start .good .0)) (start .args .call) (calledSaid (called .apply .result)) (called .apply .ensures) _ (ap answered (c .before .enum-told .given .1)))
+    (call-refused (start .args .network) l (start .args .call) (calledSaid (called .apply .result)) (called .apply .ensures) _
+    (ap answered (c .before .enum-told .given .1)))
 
 posted-between-requires : tie.Need-posted-between-requires
 posted-between-requires c κs =
     let called = c .before .before .before .before in
     let start = called .before in
-    call-keeps (start .args .network) (lengths _ _ (start .good .0)) (start .args .call) (calledSaid (called .apply .result)) (called .apply .ensures) (start .args .taken) (start .pre) _ (ap answered (c .before .answer .given .1))
+    let l = lengths _ _ (start .good .0) in
+    call-keeps (start .args .network) l (start .args .call) (calledSaid (called .apply .result)) (called .apply .ensures) (start .args .taken) (start .pre) _
+    (ap answered (c .before .answer .given .1))
 
 returns-2 : tie.Need-returns-2
 returns-2 c =
     let called = c .before .before .before .before .before in
     let start = called .before in
+    let l = lengths _ _ (start .good .0) in
     let said = ap answered (c .before .before .answer .given .1) in
     rw said at
-    (call-accepted (start .args .network) (lengths _ _ (start .good .0)) (start .args .call) (calledSaid (called .apply .result)) (called .apply .ensures) (start .args .taken) (start .pre) _ _ said (c .posted-between .ensures))
+    (call-accepted (start .args .network) l (start .args .call) (calledSaid (called .apply .result)) (called .apply .ensures) (start .args .taken) (start .pre) _ _ said
+    (c .posted-between .ensures))
 
 pub call-spec : {M : Type 1} → statement M
 call-spec =

@@ -11,22 +11,28 @@ returns : tie.Need-returns
 returns c =
     let call = c .before .before .before .before in
     let start = call .before in
+    let l = lengths _ _ (start .good .0) in
     rw (c .drain-said .ensures)
-    (drain-refused (start .args .network) (lengths _ _ (start .good .0)) (start .args .budget) (drained (call .drain .result)) (call .drain .ensures) _ (ap ran (c .before .enum-told .given .1)))
+    (drain-refused (start .args .network) l (start .args .budget) (drained (call .drain .result)) (call .drain .ensures) _
+    (ap ran (c .before .enum-told .given .1)))
 
 posted-between-requires : tie.Need-posted-between-requires
 posted-between-requires c κs =
     let call = c .before .before .before .before in
     let start = call .before in
-    drain-keeps (start .args .network) (lengths _ _ (start .good .0)) (start .args .budget) (drained (call .drain .result)) (call .drain .ensures) _ (ap ran (c .before .answer .given .1))
+    let l = lengths _ _ (start .good .0) in
+    drain-keeps (start .args .network) l (start .args .budget) (drained (call .drain .result)) (call .drain .ensures) _
+    (ap ran (c .before .answer .given .1))
 
 returns-2 : tie.Need-returns-2
 returns-2 c =
     let call = c .before .before .before .before .before in
     let start = call .before in
+    let l = lengths _ _ (start .good .0) in
     let said = ap ran (c .before .before .answer .given .1) in
     rw said at
-    (drain-accepted (start .args .network) (lengths _ _ (start .good .0)) (start .args .budget) (drained (call .drain .result)) (call .drain .ensures) _ _ said (c .posted-between .ensures))
+    (drain-accepted (start .args .network) l (start .args .budget) (drained (call .drain .result)) (call .drain .ensures) _ _ said
+    (c .posted-between .ensures))
 
 pub drain-spec : {M : Type 1} → statement M
 drain-spec =

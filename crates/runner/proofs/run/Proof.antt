@@ -46,7 +46,8 @@ loop-again c =
     let loop = step .before .before .before .before in
     let start = loop .before .before .before .before in
     let (sound, short) = step .step .ensures .1 in (
-      next-turn _ _ (loop .loop .p) (loop .loop .inv .0) (start .pre .2) (step .before .before .if1 .taken) _ (step .step .result) (step .step .ensures .0) (lengths _ _ (step .step .ok .1 .1 .0)) sound short,
+      next-turn _ _ (loop .loop .p) (loop .loop .inv .0) (start .pre .2) (step .before .before .if1 .taken) _ (step .step .result) (step .step .ensures .0)
+          (lengths _ _ (step .step .ok .1 .1 .0)) sound short,
       step .step .kept .1 .0 ∙ loop .loop .inv .1,
     )
 

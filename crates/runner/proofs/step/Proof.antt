@@ -37,7 +37,8 @@ returns-2 c =
     let stopped = printed .before .before .before in
     let read = stopped .before .before in
     let first = start read in (
-      step-stopped _ _ (first .args .p) (printed .put-line .last .0) (printed .put-line .result) _ (sym (read .read .ensures) ∙ ap reading (stopped .refusal .given .1)) (printed .put-line .ensures .0),
+      step-stopped _ _ (first .args .p) (printed .put-line .last .0) (printed .put-line .result) _
+          (sym (read .read .ensures) ∙ ap reading (stopped .refusal .given .1)) (printed .put-line .ensures .0),
       (first .pre .0, printed .put-line .ensures .1),
     )
 
