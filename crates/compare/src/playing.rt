@@ -1,0 +1,167 @@
+// A script by chance, and the model's printout of any script.
+use crate::lines::*;
+use crate::model::*;
+use crate::random::*;
+use crate::reading::*;
+use crate::record::*;
+use crate::rules::*;
+use crate::sheet::*;
+use crate::steering::*;
+use crate::text::*;
+use std::num::wrapping_add_usize as plus;
+use std::num::wrapping_sub_usize as minus;
+
+// The ledger: so many rows on from here as an order's number, how often each answer came, where HOPPED stands for an owner found by a hop or more;
+// the row of how often so many messages waited; and the row of the run, with its places.
+pub const TALLY: usize = 16;
+
+const HOPPED: usize = 47;
+
+pub const WAITED: usize = 26;
+
+pub const RUN: usize = 27;
+
+pub const SCRIPTS: usize = 0;
+
+pub const RECORDS: usize = 1;
+
+pub const TEXT: usize = 2;
+
+pub const OVER: usize = 3;
+
+pub const DIFFERENT: usize = 4;
+
+pub const FIRST_SCRIPT: usize = 5;
+
+pub const FIRST_BYTE: usize = 6;
+
+// The ordinal of the last line, in the row of counts.
+const ORDINAL: usize = 6;
+
+const LONGEST: usize = 65536;
+
+// More than a script has, since each has three bytes or more.
+const MOST_RECORDS: usize = 30000;
+
+// How long a script is at most: the first few are at the limits, and the others short, or longer, or a few of them long.
+fn most_bytes(script: usize, mood: usize) -> usize {
+    let some = below(mood, 47, 30000);
+    match script {
+        1 => 0,
+        2 | 3 => LONGEST,
+        4 => LONGEST + 1,
+        5 => 100000,
+        _ => if mood % 16 == 0 { some } else { some % 6000 },
+    }
+}
+
+fn read(sheet: &mut Sheet, script: &Page, from: usize, upto: usize) {
+    for place in from..upto {
+        feed(sheet, byte_at(script, place));
+    }
+}
+
+fn is_over(network: &Sheet, upto: usize, most: usize) -> bool {
+    if upto > most { true } else { is_stuck(network) }
+}
+
+// Where a script ends that has no room for another record, or no use for one: in half of the scripts within that record.
+fn cut(length: usize, most: usize, mood: usize) -> usize {
+    let is_close = minus(most, length) < 7;
+    if is_close && mood % 2 == 0 {
+        most
+    } else {
+        length
+    }
+}
+
+// A script of at most so many bytes, on the page; the answer is its length.
+fn grow(sheet: &mut Sheet, script: &mut Page, most: usize, mood: usize) -> usize {
+    let mut length = 0;
+    let mut throw = mood;
+    for _ in 0..MOST_RECORDS {
+        throw = next(throw);
+        let upto = write(script, length, choose(sheet, mood, throw));
+        if is_over(sheet, upto, most) {
+            return cut(length, most, mood);
+        }
+        read(sheet, script, length, upto);
+        length = upto;
+    }
+    length
+}
+
+pub fn make(sheet: &mut Sheet, script: &mut Page, ordinal: usize) -> usize {
+    let mood = mixed(ordinal % 65536 * 173961102589770 + 1);
+    let most = most_bytes(ordinal, mood);
+    if most > LONGEST {
+        return most;
+    }
+    wipe(sheet);
+    grow(sheet, script, most, mood)
+}
+
+// The answer under which a record is counted.
+fn counted(network: &Sheet, answer: usize) -> usize {
+    if answer != OWNER {
+        return answer;
+    }
+    if is_owner(network, byte(network, 2), value(network, order(network))) {
+        OWNER
+    } else {
+        HOPPED
+    }
+}
+
+fn enter(sheet: &mut Sheet, order: usize, answer: usize) {
+    add(sheet, WAITED, count(sheet, UNDERWAY), 1);
+    add(sheet, RUN, RECORDS, 1);
+    add(sheet, COUNTS, ORDINAL, 1);
+    add(sheet, plus(TALLY, order), answer, 1);
+}
+
+// Counts an answer and prints its line.
+fn keep(sheet: &mut Sheet, page: &mut Page, at: usize, answer: usize) -> usize {
+    if answer == NOTHING {
+        return at;
+    }
+    enter(sheet, order(sheet), counted(sheet, answer));
+    line(sheet, page, at, count(sheet, ORDINAL), answer)
+}
+
+// The lines of the records of a script.
+fn print_records(
+    sheet: &mut Sheet,
+    script: &Page,
+    length: usize,
+    page: &mut Page,
+    at: usize,
+) -> usize {
+    let mut to = at;
+    for place in 0..length {
+        let answer = feed(sheet, byte_at(script, place));
+        to = keep(sheet, page, to, answer);
+    }
+    keep(sheet, page, to, end(sheet))
+}
+
+// The model's printout of a script, and how long it is.
+pub fn print(sheet: &mut Sheet, script: &Page, length: usize, page: &mut Page) -> usize {
+    wipe(sheet);
+    let mut to = say(page, 0, b"ring 1\n", 0, 7, 0, 0);
+    if length > LONGEST {
+        add(sheet, plus(TALLY, UNKNOWN), 7, 1);
+        to = say(page, to, b"0 no 7\n", 0, 7, 0, 0);
+    } else {
+        to = print_records(sheet, script, length, page, to);
+    }
+    say(
+        page,
+        to,
+        b"end # posted $\n",
+        0,
+        15,
+        count(sheet, UNDERWAY),
+        count(sheet, POSTED),
+    )
+}
