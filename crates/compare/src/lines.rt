@@ -7,7 +7,7 @@ use crate::text::*;
 use std::num::wrapping_sub_usize as minus;
 
 // The word for an answer, in cells of 12: from DECLARED on one for each, and last the one for all refusals.
-pub fn name(page: &mut Page, at: usize, answer: usize) -> usize {
+pub(crate) fn name(page: &mut Page, at: usize, answer: usize) -> usize {
     let names =
         b"bench~~~~~~~owner~~~~~~~ran~~~~~~~~~created~~~~~waiting~~~~~out~~~~~~~~~granted~~~~~denied~~~~~~\
         joined~~~~~~gone~~~~~~~~join-denied~leave-deniedleft-set~~~~left-old~~~~dropped~~~~~hopped~~~~~~\
@@ -50,7 +50,13 @@ fn two_value(network: &Sheet, answer: usize) -> usize {
     }
 }
 
-pub fn line(network: &Sheet, page: &mut Page, at: usize, ordinal: usize, answer: usize) -> usize {
+pub(crate) fn line(
+    network: &Sheet,
+    page: &mut Page,
+    at: usize,
+    ordinal: usize,
+    answer: usize,
+) -> usize {
     let mut to = say(page, at, b"# ", 0, 2, ordinal, 0);
     to = name(page, to, answer);
     finish(

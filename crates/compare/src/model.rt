@@ -10,49 +10,49 @@ use std::num::wrapping_sub_usize as minus;
 // the way to it.
 const WORD: usize = 0;
 
-pub const KEY: usize = 1;
+pub(crate) const KEY: usize = 1;
 
 const AWAITED: usize = 2;
 
-pub const REQUESTS: usize = 3;
+pub(crate) const REQUESTS: usize = 3;
 
 const ACKS: usize = 4;
 
-pub const NOTICES: usize = 6;
+pub(crate) const NOTICES: usize = 6;
 
 // Rows with a place for each slot, from 1. Place 0 of NEXT leads to the slot of the first message, and each slot to the one after.
-pub const MESSAGE: usize = 7;
+pub(crate) const MESSAGE: usize = 7;
 
-pub const NEXT: usize = 8;
+pub(crate) const NEXT: usize = 8;
 
 // The row of counts, and its places: PASSED is how often a drain passed a place over, MADE the deliveries of the last one.
-pub const COUNTS: usize = 9;
+pub(crate) const COUNTS: usize = 9;
 
-pub const NODES: usize = 0;
+pub(crate) const NODES: usize = 0;
 
-pub const UNDERWAY: usize = 1;
+pub(crate) const UNDERWAY: usize = 1;
 
-pub const POSTED: usize = 2;
+pub(crate) const POSTED: usize = 2;
 
-pub const PASSED: usize = 3;
+pub(crate) const PASSED: usize = 3;
 
-pub const MADE: usize = 4;
+pub(crate) const MADE: usize = 4;
 
-pub const FULL: usize = 64;
+pub(crate) const FULL: usize = 64;
 
-pub fn count(network: &Sheet, place: usize) -> usize {
+pub(crate) fn count(network: &Sheet, place: usize) -> usize {
     get(network, COUNTS, place)
 }
 
-pub fn word(network: &Sheet, node: usize) -> usize {
+pub(crate) fn word(network: &Sheet, node: usize) -> usize {
     get(network, WORD, node)
 }
 
-pub fn status(network: &Sheet, node: usize) -> usize {
+pub(crate) fn status(network: &Sheet, node: usize) -> usize {
     digit(word(network, node), STATUS)
 }
 
-pub fn right(network: &Sheet, node: usize) -> usize {
+pub(crate) fn right(network: &Sheet, node: usize) -> usize {
     digit(word(network, node), RIGHT)
 }
 
@@ -64,7 +64,7 @@ fn holds(a: usize, b: usize, d: usize) -> bool {
     minus(d, a) < minus(b, a)
 }
 
-pub fn is_inserted(network: &Sheet, node: usize) -> bool {
+pub(crate) fn is_inserted(network: &Sheet, node: usize) -> bool {
     let acks = get(network, ACKS, node);
     match status(network, node) {
         IN => true,
@@ -75,7 +75,7 @@ pub fn is_inserted(network: &Sheet, node: usize) -> bool {
 }
 
 // The slot that leads to the message at a place; past all messages, the slot of the last.
-pub fn slot_before(network: &Sheet, place: usize) -> usize {
+pub(crate) fn slot_before(network: &Sheet, place: usize) -> usize {
     let mut slot = 0;
     for _ in 0..place {
         slot = get(network, NEXT, slot);
@@ -83,7 +83,7 @@ pub fn slot_before(network: &Sheet, place: usize) -> usize {
     slot
 }
 
-pub fn message_at(network: &Sheet, place: usize) -> usize {
+pub(crate) fn message_at(network: &Sheet, place: usize) -> usize {
     let slot = get(network, NEXT, slot_before(network, place));
     get(network, MESSAGE, slot)
 }
@@ -130,7 +130,7 @@ fn take_out(network: &mut Sheet, place: usize) {
     set(network, MESSAGE, slot, 0);
 }
 
-pub fn take(network: &mut Sheet, step: Step) -> usize {
+pub(crate) fn take(network: &mut Sheet, step: Step) -> usize {
     if step.answer >= DECLARED {
         set(network, WORD, step.node, step.after);
         post(network, step.one);
@@ -148,7 +148,7 @@ fn is_taken(network: &Sheet, key: usize) -> bool {
     false
 }
 
-pub fn how_many(network: &Sheet, wanted: usize) -> usize {
+pub(crate) fn how_many(network: &Sheet, wanted: usize) -> usize {
     let mut many = 0;
     for node in 0..count(network, NODES) {
         if status(network, node) == wanted {
@@ -158,11 +158,11 @@ pub fn how_many(network: &Sheet, wanted: usize) -> usize {
     many
 }
 
-pub fn are_all_out(network: &Sheet) -> bool {
+pub(crate) fn are_all_out(network: &Sheet) -> bool {
     how_many(network, OUT) == count(network, NODES)
 }
 
-pub fn declare(network: &mut Sheet, key: usize) -> usize {
+pub(crate) fn declare(network: &mut Sheet, key: usize) -> usize {
     let node = count(network, NODES);
     if node >= 32 {
         return 20;
@@ -175,7 +175,7 @@ pub fn declare(network: &mut Sheet, key: usize) -> usize {
     DECLARED
 }
 
-pub fn answer_to_create(network: &Sheet, node: usize) -> usize {
+pub(crate) fn answer_to_create(network: &Sheet, node: usize) -> usize {
     if !are_all_out(network) {
         return 22;
     }
@@ -186,7 +186,7 @@ pub fn answer_to_create(network: &Sheet, node: usize) -> usize {
     }
 }
 
-pub fn creation(network: &Sheet, u: usize) -> Step {
+pub(crate) fn creation(network: &Sheet, u: usize) -> Step {
     Step {
         answer: answer_to_create(network, u),
         node: u,
@@ -197,7 +197,7 @@ pub fn creation(network: &Sheet, u: usize) -> Step {
 }
 
 // The key of the node is in (left, right): in [left, right), and not the left one's own.
-pub fn fits(network: &Sheet, node: usize, left: usize, right: usize) -> bool {
+pub(crate) fn fits(network: &Sheet, node: usize, left: usize, right: usize) -> bool {
     let key = get(network, KEY, node);
     let from = get(network, KEY, left);
     if key == from {
@@ -206,7 +206,7 @@ pub fn fits(network: &Sheet, node: usize, left: usize, right: usize) -> bool {
     holds(from, get(network, KEY, right), key)
 }
 
-pub fn answer_to_join(network: &Sheet, node: usize, left: usize, right: usize) -> usize {
+pub(crate) fn answer_to_join(network: &Sheet, node: usize, left: usize, right: usize) -> usize {
     if status(network, node) != OUT {
         return 23;
     }
@@ -223,7 +223,7 @@ pub fn answer_to_join(network: &Sheet, node: usize, left: usize, right: usize) -
     }
 }
 
-pub fn joining(network: &Sheet, u: usize, p: usize, q: usize) -> Step {
+pub(crate) fn joining(network: &Sheet, u: usize, p: usize, q: usize) -> Step {
     let was = word(network, u);
     let own = number(was, LEFT_NUMBER);
     let after = node(INS, p, q, own, number(was, RIGHT_NUMBER));
@@ -236,7 +236,7 @@ pub fn joining(network: &Sheet, u: usize, p: usize, q: usize) -> Step {
     }
 }
 
-pub fn answer_to_leave(network: &Sheet, node: usize) -> usize {
+pub(crate) fn answer_to_leave(network: &Sheet, node: usize) -> usize {
     if status(network, node) != IN {
         return 26;
     }
@@ -254,7 +254,7 @@ pub fn answer_to_leave(network: &Sheet, node: usize) -> usize {
 }
 
 // A lone node posts nothing.
-pub fn leaving(network: &Sheet, u: usize) -> Step {
+pub(crate) fn leaving(network: &Sheet, u: usize) -> Step {
     let at = word(network, u);
     let answer = answer_to_leave(network, u);
     let request = message(
@@ -283,7 +283,7 @@ pub fn leaving(network: &Sheet, u: usize) -> Step {
     }
 }
 
-pub fn answer_to_deliver(network: &Sheet, place: usize) -> usize {
+pub(crate) fn answer_to_deliver(network: &Sheet, place: usize) -> usize {
     let messages = count(network, UNDERWAY);
     if place >= messages {
         return 29;
@@ -311,7 +311,7 @@ fn delivery(network: &Sheet, place: usize) -> Step {
     }
 }
 
-pub fn deliver(network: &mut Sheet, place: usize) -> usize {
+pub(crate) fn deliver(network: &mut Sheet, place: usize) -> usize {
     let step = delivery(network, place);
     if step.answer >= DECLARED {
         take_out(network, place);
@@ -319,7 +319,7 @@ pub fn deliver(network: &mut Sheet, place: usize) -> usize {
     take(network, step)
 }
 
-pub fn is_owner(network: &Sheet, node: usize, serial: usize) -> bool {
+pub(crate) fn is_owner(network: &Sheet, node: usize, serial: usize) -> bool {
     holds(
         get(network, KEY, node),
         get(network, KEY, right(network, node)),
@@ -328,7 +328,7 @@ pub fn is_owner(network: &Sheet, node: usize, serial: usize) -> bool {
 }
 
 // The node that so many hops lead to.
-pub fn after_hops(network: &Sheet, start: usize, hops: usize) -> usize {
+pub(crate) fn after_hops(network: &Sheet, start: usize, hops: usize) -> usize {
     let mut at = start;
     for _ in 0..hops {
         at = right(network, at);
@@ -337,7 +337,7 @@ pub fn after_hops(network: &Sheet, start: usize, hops: usize) -> usize {
 }
 
 // How many hops lead to the owner; as many as there are nodes where none is found.
-pub fn hops_to_owner(network: &Sheet, start: usize, serial: usize) -> usize {
+pub(crate) fn hops_to_owner(network: &Sheet, start: usize, serial: usize) -> usize {
     let nodes = count(network, NODES);
     for hops in 0..nodes {
         if is_owner(network, after_hops(network, start, hops), serial) {
@@ -359,7 +359,7 @@ fn answer_to_owner(network: &Sheet, start: usize, serial: usize) -> usize {
 }
 
 // A question leaves everything as it is.
-pub fn question(network: &Sheet, start: usize, serial: usize) -> Step {
+pub(crate) fn question(network: &Sheet, start: usize, serial: usize) -> Step {
     Step {
         answer: answer_to_owner(network, start, serial),
         node: start,
@@ -380,7 +380,7 @@ fn deliver_lowest(network: &mut Sheet) -> bool {
     false
 }
 
-pub fn drain(network: &mut Sheet, budget: usize) -> usize {
+pub(crate) fn drain(network: &mut Sheet, budget: usize) -> usize {
     set(network, COUNTS, MADE, 0);
     for _ in 0..budget {
         if !deliver_lowest(network) {

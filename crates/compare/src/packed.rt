@@ -2,54 +2,54 @@
 // A field is named by the weight of its lowest digit.
 
 // The fields of a node.
-pub const STATUS: usize = 1;
+pub(crate) const STATUS: usize = 1;
 
-pub const LEFT: usize = 64;
+pub(crate) const LEFT: usize = 64;
 
-pub const RIGHT: usize = 4096;
+pub(crate) const RIGHT: usize = 4096;
 
-pub const LEFT_NUMBER: usize = 262144;
+pub(crate) const LEFT_NUMBER: usize = 262144;
 
-pub const RIGHT_NUMBER: usize = 68719476736;
+pub(crate) const RIGHT_NUMBER: usize = 68719476736;
 
-pub const OUT: usize = 0;
+pub(crate) const OUT: usize = 0;
 
-pub const INS: usize = 1;
+pub(crate) const INS: usize = 1;
 
-pub const IN: usize = 2;
+pub(crate) const IN: usize = 2;
 
-pub const DEL: usize = 3;
+pub(crate) const DEL: usize = 3;
 
 // The fields of a message. LINK is the new right link that a SetR asks for, or the left link that a SetL tells. No message is 0, which stands for none.
-pub const KIND: usize = 1;
+pub(crate) const KIND: usize = 1;
 
-pub const SENDER: usize = 64;
+pub(crate) const SENDER: usize = 64;
 
-pub const ADDRESSEE: usize = 4096;
+pub(crate) const ADDRESSEE: usize = 4096;
 
-pub const LINK: usize = 262144;
+pub(crate) const LINK: usize = 262144;
 
-pub const EXPECTED: usize = 16777216;
+pub(crate) const EXPECTED: usize = 16777216;
 
-pub const NUMBER: usize = 1073741824;
+pub(crate) const NUMBER: usize = 1073741824;
 
-pub const SETR: usize = 1;
+pub(crate) const SETR: usize = 1;
 
-pub const ACK: usize = 2;
+pub(crate) const ACK: usize = 2;
 
-pub const NAK: usize = 3;
+pub(crate) const NAK: usize = 3;
 
-pub const SETL: usize = 4;
+pub(crate) const SETL: usize = 4;
 
-pub fn digit(packed: usize, field: usize) -> usize {
+pub(crate) fn digit(packed: usize, field: usize) -> usize {
     if field > 0 { packed / field % 64 } else { 0 }
 }
 
-pub fn number(packed: usize, field: usize) -> usize {
+pub(crate) fn number(packed: usize, field: usize) -> usize {
     if field > 0 { packed / field % 65536 } else { 0 }
 }
 
-pub fn node(
+pub(crate) fn node(
     status: usize,
     left: usize,
     right: usize,
@@ -64,11 +64,11 @@ pub fn node(
 }
 
 // The node with another status, and all else as it is.
-pub fn with_status(node: usize, status: usize) -> usize {
+pub(crate) fn with_status(node: usize, status: usize) -> usize {
     node / 64 * 64 + status % 64
 }
 
-pub fn message(
+pub(crate) fn message(
     kind: usize,
     sender: usize,
     addressee: usize,

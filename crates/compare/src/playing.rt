@@ -13,27 +13,27 @@ use std::num::wrapping_sub_usize as minus;
 
 // The ledger: so many rows on from here as an order's number, how often each answer came, where HOPPED stands for an owner found by a hop or more;
 // the row of how often so many messages waited; and the row of the run, with its places.
-pub const TALLY: usize = 16;
+pub(crate) const TALLY: usize = 16;
 
 const HOPPED: usize = 47;
 
-pub const WAITED: usize = 26;
+pub(crate) const WAITED: usize = 26;
 
-pub const RUN: usize = 27;
+pub(crate) const RUN: usize = 27;
 
-pub const SCRIPTS: usize = 0;
+pub(crate) const SCRIPTS: usize = 0;
 
-pub const RECORDS: usize = 1;
+pub(crate) const RECORDS: usize = 1;
 
-pub const TEXT: usize = 2;
+pub(crate) const TEXT: usize = 2;
 
-pub const OVER: usize = 3;
+pub(crate) const OVER: usize = 3;
 
-pub const DIFFERENT: usize = 4;
+pub(crate) const DIFFERENT: usize = 4;
 
-pub const FIRST_SCRIPT: usize = 5;
+pub(crate) const FIRST_SCRIPT: usize = 5;
 
-pub const FIRST_BYTE: usize = 6;
+pub(crate) const FIRST_BYTE: usize = 6;
 
 // The ordinal of the last line, in the row of counts.
 const ORDINAL: usize = 6;
@@ -91,7 +91,7 @@ fn grow(sheet: &mut Sheet, script: &mut Page, most: usize, mood: usize) -> usize
     length
 }
 
-pub fn make(sheet: &mut Sheet, script: &mut Page, ordinal: usize) -> usize {
+pub(crate) fn make(sheet: &mut Sheet, script: &mut Page, ordinal: usize) -> usize {
     let mood = mixed(ordinal % 65536 * 173961102589770 + 1);
     let most = most_bytes(ordinal, mood);
     if most > LONGEST {
@@ -146,7 +146,7 @@ fn print_records(
 }
 
 // The model's printout of a script, and how long it is.
-pub fn print(sheet: &mut Sheet, script: &Page, length: usize, page: &mut Page) -> usize {
+pub(crate) fn print(sheet: &mut Sheet, script: &Page, length: usize, page: &mut Page) -> usize {
     wipe(sheet);
     let mut to = say(page, 0, b"ring 1\n", 0, 7, 0, 0);
     if length > LONGEST {

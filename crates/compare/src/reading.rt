@@ -7,25 +7,25 @@ use std::num::wrapping_add_usize as plus;
 ghost use Prim.Native.Nat.{_<_};
 
 // The orders, one for each mark.
-pub const BC: usize = 0;
+pub(crate) const BC: usize = 0;
 
-pub const BN: usize = 1;
+pub(crate) const BN: usize = 1;
 
-pub const CR: usize = 2;
+pub(crate) const CR: usize = 2;
 
-pub const JN: usize = 3;
+pub(crate) const JN: usize = 3;
 
-pub const LV: usize = 4;
+pub(crate) const LV: usize = 4;
 
-pub const DL: usize = 5;
+pub(crate) const DL: usize = 5;
 
-pub const OC: usize = 6;
+pub(crate) const OC: usize = 6;
 
-pub const ON: usize = 7;
+pub(crate) const ON: usize = 7;
 
-pub const RD: usize = 8;
+pub(crate) const RD: usize = 8;
 
-pub const UNKNOWN: usize = 9;
+pub(crate) const UNKNOWN: usize = 9;
 
 // The row of the record's bytes; and, in the row of counts, how many of them have come.
 const BYTES: usize = 10;
@@ -35,14 +35,14 @@ const TAKEN: usize = 5;
 // More than a record has: a mark that is none was met, and nothing is read any more.
 const STOPPED: usize = 100;
 
-pub fn byte(network: &Sheet, place: usize) -> usize
+pub(crate) fn byte(network: &Sheet, place: usize) -> usize
     ensures { λ r. ⌜ r < 256 ⌝ }
 {
     get(network, BYTES, place) % 256
 }
 
 // By the two letters of the mark, as in the paper's script in hex; while there is but one, none.
-pub fn order(network: &Sheet) -> usize {
+pub(crate) fn order(network: &Sheet) -> usize {
     if count(network, TAKEN) == 1 {
         return UNKNOWN;
     }
@@ -61,7 +61,7 @@ pub fn order(network: &Sheet) -> usize {
 }
 
 // How many bytes stand between a mark and the next.
-pub fn size(order: usize) -> usize {
+pub(crate) fn size(order: usize) -> usize {
     match order {
         BC | BN => 4,
         JN => 3,
@@ -105,7 +105,7 @@ fn unpacked(packed: usize) -> usize {
 }
 
 // The number that an order has beside its first byte: a serial or a budget.
-pub fn value(network: &Sheet, order: usize) -> usize {
+pub(crate) fn value(network: &Sheet, order: usize) -> usize {
     match order {
         BC | OC => unpacked(raw(network, order)),
         _ => raw(network, order),
@@ -183,7 +183,7 @@ fn judged(network: &Sheet, taken: usize) -> usize {
 }
 
 // One byte more, and the answer to what it completes: a record, or a mark that is none.
-pub fn feed(network: &mut Sheet, next: usize) -> usize {
+pub(crate) fn feed(network: &mut Sheet, next: usize) -> usize {
     let place = count(network, TAKEN);
     if place == STOPPED {
         return NOTHING;
@@ -207,7 +207,7 @@ pub fn feed(network: &mut Sheet, next: usize) -> usize {
 }
 
 // The answer where the script ends: a record that is under way is cut short.
-pub fn end(network: &Sheet) -> usize {
+pub(crate) fn end(network: &Sheet) -> usize {
     match count(network, TAKEN) {
         0 | STOPPED => NOTHING,
         _ => 2,

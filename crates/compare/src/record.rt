@@ -4,11 +4,11 @@ use crate::reading::*;
 use crate::text::*;
 ghost use Prim.Native.Nat.{_<_};
 
-pub fn record(order: usize, first: usize, rest: usize) -> usize {
+pub(crate) fn record(order: usize, first: usize, rest: usize) -> usize {
     order % 16 + first % 256 * 16 + rest % 4294967296 * 4096
 }
 
-pub fn node_and_two(node: usize, left: usize, right: usize) -> usize {
+pub(crate) fn node_and_two(node: usize, left: usize, right: usize) -> usize {
     record(JN, node, left % 256 + right % 256 * 256)
 }
 
@@ -26,7 +26,7 @@ fn packed(value: usize) -> usize {
 }
 
 // A serial in the four bytes that an order has it in.
-pub fn serial(order: usize, value: usize) -> usize {
+pub(crate) fn serial(order: usize, value: usize) -> usize {
     match order {
         BC | OC => packed(value),
         _ => value,
@@ -43,7 +43,7 @@ fn bytes(script: &mut Page, at: usize, value: usize, many: usize) -> usize {
     to
 }
 
-pub fn mark(page: &mut Page, at: usize, order: usize) -> usize {
+pub(crate) fn mark(page: &mut Page, at: usize, order: usize) -> usize {
     let start = order % 16 * 2;
     say(
         page,
@@ -56,7 +56,7 @@ pub fn mark(page: &mut Page, at: usize, order: usize) -> usize {
     )
 }
 
-pub fn write(script: &mut Page, at: usize, record: usize) -> usize {
+pub(crate) fn write(script: &mut Page, at: usize, record: usize) -> usize {
     let order = record % 16;
     let to = mark(script, at, order);
     let rest = match order {

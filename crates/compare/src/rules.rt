@@ -3,41 +3,41 @@
 use crate::packed::*;
 
 // The answers to a record; below 32 stand the refusals. The first three have two values.
-pub const NOTHING: usize = 0;
+pub(crate) const NOTHING: usize = 0;
 
-pub const DECLARED: usize = 32;
+pub(crate) const DECLARED: usize = 32;
 
-pub const OWNER: usize = 33;
+pub(crate) const OWNER: usize = 33;
 
-pub const RAN: usize = 34;
+pub(crate) const RAN: usize = 34;
 
-pub const CREATED: usize = 35;
+pub(crate) const CREATED: usize = 35;
 
-pub const WAITING: usize = 36;
+pub(crate) const WAITING: usize = 36;
 
-pub const ALONE: usize = 37;
+pub(crate) const ALONE: usize = 37;
 
-pub const GRANTED: usize = 38;
+pub(crate) const GRANTED: usize = 38;
 
-pub const DENIED: usize = 39;
+pub(crate) const DENIED: usize = 39;
 
-pub const JOINED: usize = 40;
+pub(crate) const JOINED: usize = 40;
 
-pub const GONE: usize = 41;
+pub(crate) const GONE: usize = 41;
 
-pub const JOIN_DENIED: usize = 42;
+pub(crate) const JOIN_DENIED: usize = 42;
 
-pub const LEAVE_DENIED: usize = 43;
+pub(crate) const LEAVE_DENIED: usize = 43;
 
-pub const LEFT_SET: usize = 44;
+pub(crate) const LEFT_SET: usize = 44;
 
-pub const LEFT_OLD: usize = 45;
+pub(crate) const LEFT_OLD: usize = 45;
 
-pub const DROPPED: usize = 46;
+pub(crate) const DROPPED: usize = 46;
 
-pub const HIGHEST: usize = 65535;
+pub(crate) const HIGHEST: usize = 65535;
 
-pub fn grants(at: usize, request: usize) -> bool {
+pub(crate) fn grants(at: usize, request: usize) -> bool {
     if digit(at, STATUS) != IN {
         return false;
     }
@@ -58,7 +58,7 @@ fn answer_outcome(status: usize, kind: usize) -> usize {
     }
 }
 
-pub fn outcome(at: usize, taken: usize) -> usize {
+pub(crate) fn outcome(at: usize, taken: usize) -> usize {
     let kind = digit(taken, KIND);
     let status = digit(at, STATUS);
     if status == OUT {
@@ -75,7 +75,7 @@ pub fn outcome(at: usize, taken: usize) -> usize {
     }
 }
 
-pub fn node_after(at: usize, taken: usize, outcome: usize) -> usize {
+pub(crate) fn node_after(at: usize, taken: usize, outcome: usize) -> usize {
     let right = digit(at, RIGHT);
     let left = digit(at, LEFT);
     let left_number = number(at, LEFT_NUMBER);
@@ -113,7 +113,7 @@ fn notice(at: usize, taken: usize) -> usize {
 }
 
 // The first message posted, or 0.
-pub fn first_post(at: usize, taken: usize, outcome: usize) -> usize {
+pub(crate) fn first_post(at: usize, taken: usize, outcome: usize) -> usize {
     match outcome {
         GRANTED => notice(at, taken),
         DENIED => message(NAK, digit(taken, ADDRESSEE), digit(taken, SENDER), 0, 0, 0),
@@ -121,7 +121,7 @@ pub fn first_post(at: usize, taken: usize, outcome: usize) -> usize {
     }
 }
 
-pub fn second_post(at: usize, taken: usize, outcome: usize) -> usize {
+pub(crate) fn second_post(at: usize, taken: usize, outcome: usize) -> usize {
     if outcome != GRANTED {
         return 0;
     }

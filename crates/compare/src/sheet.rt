@@ -2,12 +2,12 @@
 // A place past the end reads as 0 and is never written, and sums wrap, so nobody who uses a sheet has a bound to show.
 use std::num::wrapping_add_usize as plus;
 
-pub type Sheet = [usize; 4096];
+pub(crate) type Sheet = [usize; 4096];
 
 // What takes one away where it is added.
-pub const ONE_LESS: usize = 18446744073709551615;
+pub(crate) const ONE_LESS: usize = 18446744073709551615;
 
-pub fn get(sheet: &Sheet, row: usize, place: usize) -> usize {
+pub(crate) fn get(sheet: &Sheet, row: usize, place: usize) -> usize {
     if row < 32 {
         if place < 128 {
             return sheet[row * 128 + place];
@@ -16,7 +16,7 @@ pub fn get(sheet: &Sheet, row: usize, place: usize) -> usize {
     0
 }
 
-pub fn set(sheet: &mut Sheet, row: usize, place: usize, value: usize) {
+pub(crate) fn set(sheet: &mut Sheet, row: usize, place: usize, value: usize) {
     if row < 32 {
         if place < 128 {
             sheet[row * 128 + place] = value;
@@ -24,13 +24,13 @@ pub fn set(sheet: &mut Sheet, row: usize, place: usize, value: usize) {
     }
 }
 
-pub fn add(sheet: &mut Sheet, row: usize, place: usize, more: usize) {
+pub(crate) fn add(sheet: &mut Sheet, row: usize, place: usize, more: usize) {
     let sum = plus(get(sheet, row, place), more);
     set(sheet, row, place, sum);
 }
 
 // Wipes the network, for the next script.
-pub fn wipe(sheet: &mut Sheet) {
+pub(crate) fn wipe(sheet: &mut Sheet) {
     for place in 0..2048 {
         sheet[place] = 0;
     }

@@ -401,7 +401,7 @@ fn welcome_record(network: &Sheet, mood: usize, throw: usize) -> usize {
 }
 
 // The next record of a script, for the network as it is.
-pub fn choose(network: &Sheet, mood: usize, throw: usize) -> usize {
+pub(crate) fn choose(network: &Sheet, mood: usize, throw: usize) -> usize {
     let is_early = count(network, NODES) < wanted_nodes(mood);
     let is_tight = is_full_behind_request(network);
     if is_early && below(throw, 31, 3) == 0 {
@@ -418,7 +418,7 @@ pub fn choose(network: &Sheet, mood: usize, throw: usize) -> usize {
 }
 
 // No node is in, some are not out, and nothing is under way: from here on no request is granted.
-pub fn is_stuck(network: &Sheet) -> bool {
+pub(crate) fn is_stuck(network: &Sheet) -> bool {
     if count(network, UNDERWAY) > 0 {
         return false;
     }

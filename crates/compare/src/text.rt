@@ -1,9 +1,9 @@
 // Text and scripts, written byte by byte onto a page. Each function takes the place to write at and answers the place after.
 // What would lie past the page is left out, so nobody who writes has a bound to show.
 
-pub type Page = [u8; 1048576];
+pub(crate) type Page = [u8; 1048576];
 
-pub fn put(page: &mut Page, at: usize, byte: u8) -> usize {
+pub(crate) fn put(page: &mut Page, at: usize, byte: u8) -> usize {
     if at < 1048576 {
         page[at] = byte;
         return at + 1;
@@ -16,7 +16,7 @@ fn wide(byte: u8) -> usize {
 }
 
 // What stands at a place, as a number; 0 past the page.
-pub fn byte_at(page: &Page, at: usize) -> usize {
+pub(crate) fn byte_at(page: &Page, at: usize) -> usize {
     if at < 1048576 {
         return wide(page[at]);
     }
@@ -46,7 +46,7 @@ fn glyph(text: &[u8], place: usize) -> u8 {
 }
 
 // A part of a text in which # and $ stand for two numbers, and ~ for nothing.
-pub fn say(
+pub(crate) fn say(
     page: &mut Page,
     at: usize,
     text: &[u8],
