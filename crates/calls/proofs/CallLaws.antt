@@ -20,12 +20,13 @@ use Rattle.refusal.specs.declared.Check.the-variants.{Clear, Refuse}
 use Rattle.refusal.specs.Code.{code}
 use Rattle.refusal.specs.Rules.{Coded, done, no, Rule, _when_, first, checked}
 use Rattle.refusal.proofs.Laws.{on-refuse, on-clear, cleared}
+use Rattle.serial.specs.Serial.{inRange}
 use Rattle.node.specs.declared.Node.{Node}
 use Rattle.node.specs.declared.Message.{Message}
 use Rattle.node.specs.Shape.{declaredOf, isOut, capacity}
-use Rattle.node.specs.Actions.{Effect, joinOf, leaveOf}
+use Rattle.node.specs.Actions.{Effect, joinOf, leaveOf, receiveOf}
 use Rattle.protocol.specs.declared.Call.{Call}
-use Rattle.protocol.specs.declared.Call.the-variants.{Declare, Join, Leave, Deliver}
+use Rattle.protocol.specs.declared.Call.the-variants.{Declare, Create, Join, Leave, Deliver}
 use Rattle.protocol.specs.declared.Reply.the-variants.{Declared}
 use Rattle.protocol.specs.State.{queueLimit, declared, nodeAt, statusAt, keyAt, noticeWaits, wellFormed as listsAreWellFormed}
 use Rattle.protocol.specs.Calls.{Result, refused as listsRefused, commit, keyIsTaken, declareRules, allOut, createRules, peerAt, joinRules, leaveRules, messageAt, without, deliverRules, receiving, rulesOf, effectOf, applyOf as applyToLists}
@@ -37,7 +38,7 @@ use Rattle.protocol.proofs.Refusals.{accepted-said}
 use Rattle.network.specs.declared.Network.{Network}
 use Rattle.network.specs.Arrays.{vacantNode, vacantMessage, live, wellFormed, held}
 use Rattle.calls.specs.Outcomes.{refused, inArrays, applyOf}
-use Rattle.calls.specs.Changes.{added, closed, committed, afterStep, roomRules}
+use Rattle.calls.specs.Changes.{added, closed, committed, declareTests, createTests, afterStep, roomRules}
 use Rattle.network.proofs.Lengths.{Lengths}
 use Rattle.network.proofs.ArrayLaws.{formed, held-live}
 use Rattle.calls.proofs.RunLaws.{refused-same}
@@ -57,6 +58,9 @@ room-cleared waiting posts says e = room-cleared-by waiting posts (sym says ∙ 
 pub rest-cleared : {A : Type 0} {k : Check} (said : Coded A) (rules : List Rule) → checked k ≡ afterStep said (first rules) → k ≡ Clear → first rules ≡ none
 rest-cleared (done a) rules says e = sym says ∙ ap checked e
 rest-cleared (no m) rules says e = let z : _≡_ {A = ℕ} 0 1 = cc (ap checked e) in absurd (omega arith)
+
+pub declare-room : (n : Network) (key : ℕ) {k : Check} → checked k ≡ first (declareTests n key) → k ≡ Clear → n .count < capacity
+declare-room n key says clear = let (_, (room, _)) = cleared (declareTests n key) (sym says ∙ ap checked clear) in tested-below (n .count) capacity room
 
 -- ---- one of three nodes that is not declared
 some-undeclared : (a b c : Bool) (rest : Option ℕ) → (a && (b && c)) ≡ false → cond (not a) (some 5) (cond (not b) (some 5) (cond (not c) (some 5) rest)) ≡ some 5
@@ -96,6 +100,18 @@ module _ (n : Network) (l : Lengths n) (h : wellFormed n ≡ true) where
   addressee i k =
       let waits = taken (live n) i (waits-live i k) .waits in
       omega (arith, nodes-length n l h, declared-addressee (live n) lists (messageAt (live n) i) waits)
+
+  -- as the code reads the arrays
+  pub addressee-read : (place : ℕ) (d : Message) → place < n .waiting → getD (n .messages) place d .to < n .count
+  addressee-read place d waits = rw (ap (λ (m : Message). m .to) (message-live place d waits)) at (addressee place waits)
+
+  -- what the node that a message is for does with it
+  pub received-here : (place : ℕ) (d : Message) (u : Node) → place < n .waiting → let m = getD (n .messages) place d in
+      receiveOf (m .to) (getD (n .nodes) (m .to) u) m ≡ receiving (live n) (messageAt (live n) place)
+  received-here place d u waits =
+      let m = getD (n .messages) place d in
+      ap (λ (node : Node). receiveOf (m .to) node m) (sym (node-live n l h (m .to) u (addressee-read place d waits)))
+      ∙ ap (receiving (live n)) (sym (message-live place d waits))
 
   -- ---- what comes of a call
   pub refuses : (call : Call) (number : ℕ) → listsRefused (live n) number ≡ applyToLists (live n) call → refused n number ≡ applyOf n call
@@ -145,19 +161,20 @@ module _ (n : Network) (l : Lengths n) (h : wellFormed n ≡ true) where
       (below-agree (n .count) _ _ (λ u k. ap (λ (node : Node). not (eqb (node .key) key)) (sym (node-live n l h u vacantNode k)))
       ∙ ap (λ k. everyBelow k (λ u. not (eqb (keyAt (live n) u) key))) (sym (nodes-length n l h)))
 
-  pub undeclared-live : (u : ℕ) → not (ltb u (n .count)) ≡ not (declared (live n) u)
-  undeclared-live u = ap (λ k. not (ltb u k)) (sym (nodes-length n l h))
-
   -- ---- join, leave and deliver as the code comes to them
   pub join-undeclared : (u p q : ℕ) → (ltb u (n .count) && (ltb p (n .count) && ltb q (n .count))) ≡ false → refused n 5 ≡ applyOf n (Join u p q)
   join-undeclared u p q e =
       refuses-first (Join u p q) 5
       (rw lists-tested (some-undeclared (declared (live n) u) (declared (live n) p) (declared (live n) q) _ (rw (sym (nodes-length n l h)) at e)))
 
+  unknown : (u : ℕ) → n .count ≤ u → declared (live n) u ≡ false
+  unknown u k = le-ltb u (length (live n .nodes)) (omega (arith, nodes-length n l h))
+
+  pub create-undeclared : (u : ℕ) → n .count ≤ u → refused n 5 ≡ applyOf n (Create u)
+  create-undeclared u k = refuses-first (Create u) 5 (simp (lists-tested, unknown u k))
+
   pub leave-undeclared : (u : ℕ) → n .count ≤ u → refused n 5 ≡ applyOf n (Leave u)
-  leave-undeclared u k =
-      let unknown : declared (live n) u ≡ false = le-ltb u (length (live n .nodes)) (omega (arith, nodes-length n l h)) in
-      refuses-first (Leave u) 5 (simp (lists-tested, unknown))
+  leave-undeclared u k = refuses-first (Leave u) 5 (simp (lists-tested, unknown u k))
 
   pub no-message : (place : ℕ) → n .waiting ≤ place → refused n 29 ≡ applyOf n (Deliver place)
   no-message place k =
@@ -204,9 +221,6 @@ module _ (n : Network) (l : Lengths n) (h : wellFormed n ≡ true) where
       → effectOf (live n) call ≡ commit (live n) u (live n .messages) e → checked k ≡ first (rulesOf (live n) call) → k ≡ Clear → committed n u e ≡ applyOf n call
   committed-by call u e known room step says clear = commits u e known room ∙ ap inArrays (sym step) ∙ accepts-by call says clear
 
-  pub addressee-read : (place : ℕ) (d : Message) → place < n .waiting → getD (n .messages) place d .to < n .count
-  addressee-read place d waits = rw (ap (λ (m : Message). m .to) (message-live place d waits)) at (addressee place waits)
-
   pub delivered-by : (place : ℕ) (d : Message) (e : Effect) {k : Check} → place < n .waiting → e ≡ receiving (live n) (messageAt (live n) place)
       → checked k ≡ first (roomRules (n .waiting - 1) (e .posts)) → k ≡ Clear → committed (closed n place) (getD (n .messages) place d .to) e ≡ applyOf n (Deliver place)
   delivered-by place d e waits step says clear =
@@ -216,20 +230,17 @@ module _ (n : Network) (l : Lengths n) (h : wellFormed n ≡ true) where
       ∙ accepts-by (Deliver place) (says ∙ deliver-says-here place e waits step) clear
 
   -- ---- declare and create
-  pub create-declared : (u : ℕ) {k : Check} → checked k ≡ first (createRules (live n) u) → k ≡ Clear → u < n .count
-  create-declared u says clear =
-      let (_, (known, _)) = cleared (createRules (live n) u) (sym says ∙ ap checked clear) in
-      omega (arith, nodes-length n l h, tested-below u (length (live n .nodes)) known)
+  pub declare-says : (key : ℕ) → first (declareTests n key) ≡ first (declareRules (live n) key)
+  declare-says key =
+      rw lists-tested (λ i. cond (not (inRange key)) (some 4) (cond (not (ltb (sym (nodes-length n l h) i) capacity)) (some 20) (cond (key-taken-live key i) (some 21) none)))
 
-  pub declare-room : (key : ℕ) {k : Check} → checked k ≡ first (declareRules (live n) key) → k ≡ Clear → n .count < capacity
-  declare-room key says clear =
-      let (_, (_, (room, _))) = cleared (declareRules (live n) key) (sym says ∙ ap checked clear) in
-      omega (arith, nodes-length n l h, tested-below (length (live n .nodes)) capacity room)
+  pub create-says : (u : ℕ) → u < n .count → first (createTests n u) ≡ first (createRules (live n) u)
+  create-says u known = rw (lists-tested, declared-live u known) (ap (λ out. cond (not out) (some 22) (cond (noticeWaits (live n) u) (some 25) none)) all-out-live)
 
-  pub added-by : (key : ℕ) {k : Check} → checked k ≡ first (declareRules (live n) key) → k ≡ Clear
+  pub added-by : (key : ℕ) {k : Check} → checked k ≡ first (declareTests n key) → k ≡ Clear
       → record { network = added n (declaredOf key); said = done (Declared (n .count) key) } ≡ applyOf n (Declare key)
   added-by key says clear =
-      let room : length (live n .nodes) < capacity = omega (arith, nodes-length n l h, declare-room key says clear) in
+      let room : length (live n .nodes) < capacity = omega (arith, nodes-length n l h, declare-room n key says clear) in
       let network = ap (λ m. added m (declaredOf key)) (sym same) ∙ added-held (live n) (declaredOf key) room in
       let number = sym (nodes-length n l h) in
-      (λ i. record { network = network i; said = done (Declared (number i) key) }) ∙ accepts-by (Declare key) says clear
+      (λ i. record { network = network i; said = done (Declared (number i) key) }) ∙ accepts-by (Declare key) (says ∙ declare-says key) clear

@@ -1,28 +1,34 @@
 -- A drain step by step: what is still to be delivered leads where the whole drain leads, and with what was made it counts as many. Each
 -- delivery at the lowest place keeps that. Assumes nothing.
-use mathlib.Core.Path.{_≡_, sym, ap, _∙_}
+use mathlib.Core.Path.{_≡_, refl, sym, ap, _∙_}
 use mathlib.Core.Bool.{true}
 use mathlib.Core.List.{List, [], _∷_}
 use mathlib.Core.Option.{some}
 use Prim.Native.Nat.{ℕ, suc, _+_, _-_, _≤_, _<_}
 use native.Mathlib.Omega.{arith}
-use lib.ListN.{length, length-append, length-replicate}
+use lib.ListN.{length, getD, length-append, length-replicate}
+use borrow.Author.Tests.{le-leb}
 use Rattle.truth.proofs.TestLaws.{holds, is-true}
-use Rattle.refusal.specs.Rules.{done}
+use Rattle.refusal.specs.declared.Check.the-variants.{Clear}
+use Rattle.refusal.specs.Rules.{done, first, checked}
+use Rattle.node.specs.declared.Message.{Message}
 use Rattle.node.specs.Shape.{capacity}
+use Rattle.node.specs.Actions.{Effect}
 use Rattle.protocol.specs.declared.Call.the-variants.{Deliver}
 use Rattle.protocol.specs.State.{State, queueLimit, wellFormed as listsAreWellFormed}
+use Rattle.protocol.specs.Calls.{messageAt, receiving}
 use Rattle.protocol.specs.Drain.{lowest, afterDelivery, places, deliverAll, drainOf as drainLists}
 use Rattle.protocol.proofs.Facts.{formed as lists-formed}
 use Rattle.protocol.proofs.Lively.{steady}
-use Rattle.protocol.proofs.Drains.{places-next}
+use Rattle.protocol.proofs.Drains.{lowest-at, places-next}
 use Rattle.network.specs.declared.Network.{Network}
 use Rattle.network.specs.Arrays.{vacantNode, vacantMessage, live, wellFormed, filled, held}
 use Rattle.calls.specs.Outcomes.{applyOf, drainOf}
+use Rattle.calls.specs.Changes.{closed, committed, roomRules}
 use Rattle.network.proofs.Lengths.{Lengths}
 use Rattle.network.proofs.ArrayLaws.{formed, live-held, held-well-formed}
 use Rattle.network.proofs.LiveLaws.{messages-length}
-use Rattle.calls.proofs.CallLaws.{same}
+use Rattle.calls.proofs.CallLaws.{same, waits-live, delivers-here, delivered-by}
 
 -- ---- the arrays that hold well-formed lists
 filled-length : {A : Type 0} (n : ℕ) (blank : A) (l : List A) → length l ≤ n → length (filled n blank l) ≡ n
@@ -32,6 +38,22 @@ held-lengths : (s : State) → listsAreWellFormed s ≡ true → Lengths (held s
 held-lengths s h =
     let w = lists-formed s h in
     record { nodes = filled-length capacity vacantNode (s .nodes) (w .few-nodes); messages = filled-length queueLimit vacantMessage (s .messages) (w .few-messages) }
+
+-- ---- where a delivery is to be had
+-- a step posts two messages at most, so that while the queue is not full a delivery at the first place finds room
+pub first-is-lowest : (n : Network) (l : Lengths n) (h : wellFormed n ≡ true) (e : Effect) → 0 < n .waiting → n .waiting < queueLimit → length (e .posts) ≤ 2
+    → e ≡ receiving (live n) (messageAt (live n) 0) → lowest (live n) ≡ some 0
+first-is-lowest n l h e waits few posts step =
+    let room : n .waiting - 1 + length (e .posts) ≤ queueLimit = omega arith in
+    lowest-at (live n) 0 (waits-live n l h 0 waits) (λ q k. absurd (omega arith)) (sym (delivers-here n l h 0 e waits step) ∙ le-leb _ _ room)
+
+-- a delivery whose posts find room, written into the arrays
+pub delivered-there : (n : Network) (l : Lengths n) (h : wellFormed n ≡ true) (place : ℕ) (d : Message) (e : Effect) → place < n .waiting
+    → n .waiting - 1 + length (e .posts) ≤ queueLimit → e ≡ receiving (live n) (messageAt (live n) place)
+    → committed (closed n place) (getD (n .messages) place d .to) e ≡ applyOf n (Deliver place)
+delivered-there n l h place d e waits room step =
+    let clear : checked Clear ≡ first (roomRules (n .waiting - 1) (e .posts)) = rw (le-leb (n .waiting - 1 + length (e .posts)) queueLimit room) in
+    delivered-by n l h place d e waits step clear refl
 
 -- ---- a drain that has made some of its deliveries
 pub record Underway (start : Network) (budget : ℕ) (n : Network) (made : ℕ) : Type 0 where

@@ -4,7 +4,7 @@ use mathlib.Core.Path.{_≡_, sym, ap, _∙_}
 use mathlib.Core.List.{List, [], _∷_, _++_, append-assoc, append-nil}
 use Prim.Native.Nat.{ℕ, suc, _+_, _-_, _≤_, _<_}
 use native.Mathlib.Omega.{arith}
-use lib.ListN.{length, set, replicate, length-append, length-set}
+use lib.ListN.{length, set, take, drop, replicate, length-append, length-set}
 use lib.Seq.{set-append-left, set-append-seam, take-append-seam, drop-append-seam}
 use Rattle.node.specs.declared.Node.{Node}
 use Rattle.node.specs.declared.Message.{Message}
@@ -12,9 +12,10 @@ use Rattle.node.specs.Shape.{capacity}
 use Rattle.node.specs.Actions.{Effect}
 use Rattle.protocol.specs.State.{State, queueLimit}
 use Rattle.protocol.specs.Calls.{without, commit}
+use Rattle.network.specs.declared.Network.{Network}
 use Rattle.network.specs.Arrays.{vacantNode, vacantMessage, filled, held}
 use Rattle.calls.specs.Outcomes.{inArrays}
-use Rattle.calls.specs.Changes.{placed, added, closed, posted, allPosted, committed}
+use Rattle.calls.specs.Changes.{placed, added, closed, queued, allPosted, committed}
 use Rattle.calls.proofs.Shift.{length-without}
 
 -- ---- a list that is filled up with a blank
@@ -54,14 +55,6 @@ module _ (s : State) where
     waiting = length (s .messages);
   }
 
-  posted-held : (m : Message) → length (s .messages) < queueLimit → posted (held s) m ≡ held (record { nodes = s .nodes; messages = s .messages ++ (m ∷ []) })
-  posted-held m k = λ i. record {
-    nodes = filled capacity vacantNode (s .nodes);
-    count = length (s .nodes);
-    messages = filled-more queueLimit vacantMessage (s .messages) m k i;
-    waiting = sym (length-append (s .messages) (m ∷ [])) i;
-  }
-
   pub closed-held : (place : ℕ) → place < length (s .messages) → length (s .messages) ≤ queueLimit
       → closed (held s) place ≡ held (record { nodes = s .nodes; messages = without place (s .messages) })
   closed-held place k few =
@@ -70,13 +63,35 @@ module _ (s : State) where
       rw (take-append-seam, drop-append-seam) (filled-less queueLimit vacantMessage (s .messages) (without place (s .messages)) (length-without place (s .messages) k) few) in
       λ i. record { nodes = filled capacity vacantNode (s .nodes); count = length (s .nodes); messages = shifted i; waiting = one-less i }
 
-pub all-posted-held : (nodes : List Node) (ms posts : List Message) → length ms + length posts ≤ queueLimit
+queued-filled : (ms posts : List Message) → length ms + length posts ≤ queueLimit
+    → queued (filled queueLimit vacantMessage ms) (length ms) posts ≡ filled queueLimit vacantMessage (ms ++ posts)
+queued-filled ms [] k = rw append-nil
+queued-filled ms (m ∷ posts) k =
+    ap (λ l. queued l (length ms + 1) posts) (filled-more queueLimit vacantMessage ms m (omega arith))
+    ∙ ap (λ n. queued (filled queueLimit vacantMessage (ms ++ (m ∷ []))) n posts) (sym (length-append ms (m ∷ [])))
+    ∙ queued-filled (ms ++ (m ∷ [])) posts (rw length-append (omega arith))
+    ∙ ap (filled queueLimit vacantMessage) (append-assoc ms (m ∷ []) posts)
+
+all-posted-held : (nodes : List Node) (ms posts : List Message) → length ms + length posts ≤ queueLimit
     → allPosted (held (record { nodes = nodes; messages = ms })) posts ≡ held (record { nodes = nodes; messages = ms ++ posts })
-all-posted-held nodes ms [] k = rw append-nil
-all-posted-held nodes ms (m ∷ posts) k =
-    ap (λ n. allPosted n posts) (posted-held (record { nodes = nodes; messages = ms }) m (omega arith))
-    ∙ all-posted-held nodes (ms ++ (m ∷ [])) posts (rw length-append (omega arith))
-    ∙ ap (λ messages. held (record { nodes = nodes; messages = messages })) (append-assoc ms (m ∷ []) posts)
+all-posted-held nodes ms posts k = λ i. record {
+  nodes = filled capacity vacantNode nodes;
+  count = length nodes;
+  messages = queued-filled ms posts k i;
+  waiting = sym (length-append ms posts) i;
+}
+
+-- ---- a delivery as the code puts it together: the messages without the one at a place, the posts behind them, the node in its place
+pub delivered-arrays : (n : Network) (place u : ℕ) (node : Node) (posts : List Message) {left queue : List Message} {more : ℕ} → 0 < n .waiting
+    → left ≡ without place (take (n .waiting - 1 + 1) (n .messages)) ++ vacantMessage ∷ drop (n .waiting - 1 + 1) (n .messages)
+    → queue ≡ queued left (n .waiting - 1) posts
+    → more ≡ length posts
+    → record { nodes = set (n .nodes) u node; count = n .count; messages = queue; waiting = n .waiting - 1 + more } ≡ allPosted (placed (closed n place) u node) posts
+delivered-arrays n place u node posts k gone behind count =
+    let all : n .waiting - 1 + 1 ≡ n .waiting = omega arith in
+    let closed-up = gone ∙ ap (λ w. without place (take w (n .messages)) ++ vacantMessage ∷ drop w (n .messages)) all in
+    let messages = behind ∙ ap (λ l. queued l (n .waiting - 1) posts) closed-up in
+    λ i. record { nodes = set (n .nodes) u node; count = n .count; messages = messages i; waiting = n .waiting - 1 + count i }
 
 -- ---- a step: the node in its place, and its posts at the end
 pub committed-held : (s : State) (rest : List Message) (u : ℕ) (e : Effect) → u < length (s .nodes) → length rest + length (e .posts) ≤ queueLimit

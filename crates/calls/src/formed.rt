@@ -1,7 +1,9 @@
-// The calls on a network that is known to be well formed: their refusals but 6, and what they do.
+// The calls past their test of the network: their refusals but 6, and what they do. Each asks that the network's counts be within limits, is
+// safe on every such network, and says what it does of a network that is well formed. Where a message names a node that no array holds, which
+// no well-formed network has, the call is refused 6.
 ghost use mathlib.Core.Path.{_≡_};
 ghost use mathlib.Core.Bool.{true, not};
-ghost use Prim.Native.Nat.{_+_, _<_, _≤_};
+ghost use Prim.Native.Nat.{_+_, _-_, _<_, _≤_};
 ghost use lib.ListN.{length, getD, take};
 ghost use lib.Dec.{leb, eqb};
 ghost use Rattle.truth.specs.Tests.{everyBelow, any};
@@ -11,11 +13,11 @@ ghost use Rattle.node.specs.Shape.{isOut};
 ghost use Rattle.node.specs.Actions.{effect, coded, posted as listed};
 ghost use Rattle.protocol.specs.declared.Call.the-variants.{Declare, Create, Join, Leave, Deliver};
 ghost use Rattle.protocol.specs.State.{isNotice, isNoticeTo};
-ghost use Rattle.protocol.specs.Calls.{stepped, declareRules, createRules, peerAt, messageAt, receiving, applyOf as applyToLists};
+ghost use Rattle.protocol.specs.Calls.{stepped, applyOf as applyToLists};
 ghost use Rattle.protocol.specs.History.{accepted};
 ghost use Rattle.network.specs.Arrays.{vacantNode, live, wellFormed};
 ghost use Rattle.calls.specs.Outcomes.{answered, called, refused, applyOf};
-ghost use Rattle.calls.specs.Changes.{committed, afterStep, roomRules};
+ghost use Rattle.calls.specs.Changes.{committed, closed, declareTests, createTests, afterStep, roomRules};
 use crate::Answer;
 use crate::Called;
 use crate::store;
@@ -52,7 +54,7 @@ fn answer_of(verdict: Verdict) -> Answer
     }
 }
 
-// Node `number` has made a step: it stands in its place as the step leaves it, and the step's posts are added at the end.
+// Node `number` has made a step, and its posts find room.
 fn commit(network: Network, number: u8, step: Step) -> Called
     requires { ⌜ (number < 32) × (network .waiting + length (listed (step .posts)) ≤ 64) ⌝ }
     ensures { λ r. ⌜ called r ≡ committed network number (effect step) ⌝ }
@@ -61,27 +63,31 @@ fn commit(network: Network, number: u8, step: Step) -> Called
     let posts = step.posts;
     let verdict = step.verdict;
     Called {
-        network: store::post_all(store::place(network, number, node), posts),
+        network: store::stepped(network, number, node, posts),
         answer: answer_of(verdict),
     }
 }
 
-fn length_of(posts: Posts) -> u8
-    ensures { λ r. ⌜ r ≡ length (listed posts) ⌝ }
+// The same of a step on the message at a place.
+fn commit_delivery(network: Network, place: u8, number: u8, step: Step) -> Called
+    requires { ⌜ (place < network .waiting) × (network .waiting ≤ 64) × (number < 32) × (network .waiting - 1 + length (listed (step .posts)) ≤ 64) ⌝ }
+    ensures { λ r. ⌜ called r ≡ committed (closed network place) number (effect step) ⌝ }
 {
-    match posts {
-        Posts::Nothing => 0,
-        Posts::One(_) => 1,
-        Posts::Two(_, _) => 2,
+    let node = step.node;
+    let posts = step.posts;
+    let verdict = step.verdict;
+    Called {
+        network: store::delivered(network, place, number, node, posts),
+        answer: answer_of(verdict),
     }
 }
 
 // Whether a step's posts find room after so many messages.
-fn has_room(waiting: u8, posts: Posts) -> bool
+pub(crate) fn has_room(waiting: u8, posts: Posts) -> bool
     requires { ⌜ waiting ≤ 64 ⌝ }
     ensures { λ r. ⌜ r ≡ leb (waiting + length (listed posts)) 64 ⌝ }
 {
-    waiting + length_of(posts) <= QUEUE_LIMIT
+    waiting + store::length_of(posts) <= QUEUE_LIMIT
 }
 
 fn is_out(status: Status) -> bool
@@ -156,8 +162,8 @@ fn notice_waits(messages: [Message; 64], waiting: usize, node: u8) -> bool
 }
 
 fn check_declare(network: Network, key: u32) -> Check
-    requires { ⌜ wellFormed network ≡ true ⌝ }
-    ensures { λ r. ⌜ checked r ≡ first (declareRules (live network) key) ⌝ }
+    requires { ⌜ network .count ≤ 32 ⌝ }
+    ensures { λ r. ⌜ checked r ≡ first (declareTests network key) ⌝ }
 {
     let nodes = network.nodes;
     let count = network.count;
@@ -177,8 +183,8 @@ fn check_declare(network: Network, key: u32) -> Check
 }
 
 pub(crate) fn declare(network: Network, key: u32) -> Called
-    requires { ⌜ wellFormed network ≡ true ⌝ }
-    ensures { λ r. ⌜ called r ≡ applyOf network (Declare key) ⌝ }
+    requires { ⌜ (network .count ≤ 32) × (network .waiting ≤ 64) ⌝ }
+    ensures { λ r. ⌜ (wellFormed network ≡ true → called r ≡ applyOf network (Declare key)) ⌝ }
 {
     match check_declare(network, key) {
         Check::Refuse(refusal) => refuse(network, refusal),
@@ -192,50 +198,36 @@ pub(crate) fn declare(network: Network, key: u32) -> Called
     }
 }
 
-fn check_create(network: Network, node: u8) -> Check
-    requires { ⌜ wellFormed network ≡ true ⌝ }
-    ensures { λ r. ⌜ checked r ≡ first (createRules (live network) node) ⌝ }
+fn check_create(network: Network, number: u8) -> Check
+    requires { ⌜ (network .count ≤ 32) × (network .waiting ≤ 64) ⌝ }
+    ensures { λ r. ⌜ checked r ≡ first (createTests network number) ⌝ }
 {
     let nodes = network.nodes;
     let messages = network.messages;
-    let count = network.count as usize;
-    let waiting = network.waiting as usize;
     refusal::rule(
-        !(node < network.count),
-        Refusal::Undeclared,
+        !all_out(nodes, network.count as usize),
+        Refusal::NotAllOut,
         refusal::rule(
-            !all_out(nodes, count),
-            Refusal::NotAllOut,
-            refusal::rule(
-                notice_waits(messages, waiting, node),
-                Refusal::NoticeWaiting,
-                Check::Clear,
-            ),
+            notice_waits(messages, network.waiting as usize, number),
+            Refusal::NoticeWaiting,
+            Check::Clear,
         ),
     )
 }
 
 pub(crate) fn create(network: Network, number: u8) -> Called
-    requires { ⌜ wellFormed network ≡ true ⌝ }
-    ensures { λ r. ⌜ called r ≡ applyOf network (Create number) ⌝ }
+    requires { ⌜ (network .count ≤ 32) × (network .waiting ≤ 64) ⌝ }
+    ensures { λ r. ⌜ (wellFormed network ≡ true → called r ≡ applyOf network (Create number)) ⌝ }
 {
+    if network.count <= number {
+        return refuse(network, Refusal::Undeclared);
+    }
     match check_create(network, number) {
         Check::Refuse(refusal) => refuse(network, refusal),
         Check::Clear => {
             let node = network.nodes[number as usize];
             commit(network, number, node.create(number))
         }
-    }
-}
-
-fn peer(network: Network, number: u8) -> Peer
-    requires { ⌜ (wellFormed network ≡ true) × (number < network .count) ⌝ }
-    ensures { λ r. ⌜ r ≡ peerAt (live network) number ⌝ }
-{
-    let node = network.nodes[number as usize];
-    Peer {
-        number,
-        key: node.key,
     }
 }
 
@@ -256,9 +248,19 @@ fn check_room(waiting: u8, posts: Posts) -> Check
     refusal::rule(!has_room(waiting, posts), Refusal::QueueFull, Check::Clear)
 }
 
+// A neighbour, with its own key.
+fn peer(number: u8, node: Node) -> Peer
+    ensures { λ r. ⌜ r ≡ record { number = number; key = node .key } ⌝ }
+{
+    Peer {
+        number,
+        key: node.key,
+    }
+}
+
 pub(crate) fn join(network: Network, number: u8, left: u8, right: u8) -> Called
-    requires { ⌜ wellFormed network ≡ true ⌝ }
-    ensures { λ r. ⌜ called r ≡ applyOf network (Join number left right) ⌝ }
+    requires { ⌜ (network .count ≤ 32) × (network .waiting ≤ 64) ⌝ }
+    ensures { λ r. ⌜ (wellFormed network ≡ true → called r ≡ applyOf network (Join number left right)) ⌝ }
 {
     let count = network.count;
     let waiting = network.waiting;
@@ -266,7 +268,9 @@ pub(crate) fn join(network: Network, number: u8, left: u8, right: u8) -> Called
         return refuse(network, Refusal::Undeclared);
     }
     let node = network.nodes[number as usize];
-    let step = node.join(number, peer(network, left), peer(network, right));
+    let before = network.nodes[left as usize];
+    let beyond = network.nodes[right as usize];
+    let step = node.join(number, peer(left, before), peer(right, beyond));
     let verdict = step.verdict;
     let posts = step.posts;
     let messages = network.messages;
@@ -282,10 +286,11 @@ pub(crate) fn join(network: Network, number: u8, left: u8, right: u8) -> Called
 }
 
 pub(crate) fn leave(network: Network, number: u8) -> Called
-    requires { ⌜ wellFormed network ≡ true ⌝ }
-    ensures { λ r. ⌜ called r ≡ applyOf network (Leave number) ⌝ }
+    requires { ⌜ (network .count ≤ 32) × (network .waiting ≤ 64) ⌝ }
+    ensures { λ r. ⌜ (wellFormed network ≡ true → called r ≡ applyOf network (Leave number)) ⌝ }
 {
-    if network.count <= number {
+    let count = network.count;
+    if count <= number {
         return refuse(network, Refusal::Undeclared);
     }
     let node = network.nodes[number as usize];
@@ -298,39 +303,39 @@ pub(crate) fn leave(network: Network, number: u8) -> Called
     }
 }
 
-// What the node does with the message at a place that is for it.
-fn receive(network: Network, place: u8) -> Step
-    requires { ⌜ (wellFormed network ≡ true) × (place < network .waiting) ⌝ }
-    ensures { λ r. ⌜ effect r ≡ receiving (live network) (messageAt (live network) place) ⌝ }
+// Whether a delivery at a place where a message waits is not refused: its posts find room where the message stood.
+pub(crate) fn delivers(network: Network, place: u8) -> bool
+    requires { ⌜ (place < network .waiting) × (network .waiting ≤ 64) ⌝ }
+    ensures { λ r. ⌜ (wellFormed network ≡ true → r ≡ accepted (applyToLists (live network) (Deliver place) .said)) ⌝ }
 {
     let message = network.messages[place as usize];
     let to = message.to;
+    if CAPACITY <= to {
+        return false;
+    }
     let node = network.nodes[to as usize];
-    node.receive(to, message)
-}
-
-// Whether a delivery at a place where a message waits is not refused: its posts find room where the message stood.
-pub(crate) fn delivers(network: Network, place: u8) -> bool
-    requires { ⌜ (wellFormed network ≡ true) × (place < network .waiting) ⌝ }
-    ensures { λ r. ⌜ r ≡ accepted (applyToLists (live network) (Deliver place) .said) ⌝ }
-{
-    let step = receive(network, place);
+    let step = node.receive(to, message);
     let posts = step.posts;
     has_room(network.waiting - 1, posts)
 }
 
 pub(crate) fn deliver(network: Network, place: u8) -> Called
-    requires { ⌜ wellFormed network ≡ true ⌝ }
-    ensures { λ r. ⌜ called r ≡ applyOf network (Deliver place) ⌝ }
+    requires { ⌜ (network .count ≤ 32) × (network .waiting ≤ 64) ⌝ }
+    ensures { λ r. ⌜ (wellFormed network ≡ true → called r ≡ applyOf network (Deliver place)) ⌝ }
 {
     if network.waiting <= place {
         return refuse(network, Refusal::NoMessage);
     }
     let message = network.messages[place as usize];
-    let step = receive(network, place);
+    let to = message.to;
+    if CAPACITY <= to {
+        return refuse(network, Refusal::Malformed);
+    }
+    let node = network.nodes[to as usize];
+    let step = node.receive(to, message);
     let posts = step.posts;
     match check_room(network.waiting - 1, posts) {
         Check::Refuse(refusal) => refuse(network, refusal),
-        Check::Clear => commit(store::close(network, place), message.to, step),
+        Check::Clear => commit_delivery(network, place, to, step),
     }
 }

@@ -1,9 +1,13 @@
 // The calls on a network by value, and a drain. Each is handed any network and hands one back; it tests the network first, and refuses 6
 // there. Each contract is an equation with the rules of the crate `protocol` on the lists that the network's arrays hold.
 ghost use mathlib.Core.Path.{_≡_};
+ghost use mathlib.Core.Bool.{true};
+ghost use Rattle.network.specs.Arrays.{wellFormed};
 ghost use Rattle.protocol.specs.declared.Call.the-variants.{Declare, Create, Join, Leave, Deliver};
 ghost use Rattle.calls.specs.Outcomes.{called, applyOf, drained, drainOf};
+use network::CAPACITY;
 use network::Network;
+use network::QUEUE_LIMIT;
 use protocol::Call;
 use protocol::Reply;
 use refusal::Refusal;
@@ -36,11 +40,12 @@ pub struct Drained {
     pub answer: DrainAnswer,
 }
 
-// Any call.
-pub fn apply(network: Network, call: Call) -> Called
-    ensures { λ r. ⌜ called r ≡ applyOf network call ⌝ }
+// Any call, on a network that its holder knows to be well formed: no test of the whole network is made. On any other network the call is
+// safe and ends, and nothing is said of what it leaves; who does not know calls `apply`.
+pub fn apply_formed(network: Network, call: Call) -> Called
+    ensures { λ r. ⌜ (wellFormed network ≡ true → called r ≡ applyOf network call) ⌝ }
 {
-    if !network.is_well_formed() {
+    if (CAPACITY < network.count) | (QUEUE_LIMIT < network.waiting) {
         return formed::refuse(network, Refusal::Malformed);
     }
     match call {
@@ -49,6 +54,17 @@ pub fn apply(network: Network, call: Call) -> Called
         Call::Join { node, left, right } => formed::join(network, node, left, right),
         Call::Leave(node) => formed::leave(network, node),
         Call::Deliver(place) => formed::deliver(network, place),
+    }
+}
+
+// Any call, on any network.
+pub fn apply(network: Network, call: Call) -> Called
+    ensures { λ r. ⌜ called r ≡ applyOf network call ⌝ }
+{
+    if network.is_well_formed() {
+        apply_formed(network, call)
+    } else {
+        formed::refuse(network, Refusal::Malformed)
     }
 }
 
@@ -82,14 +98,22 @@ pub fn deliver(network: Network, place: u8) -> Called
     apply(network, Call::Deliver(place))
 }
 
+// A drain of a network that its holder knows to be well formed, as `apply_formed`.
+pub fn drain_formed(network: Network, budget: u16) -> Drained
+    ensures { λ r. ⌜ (wellFormed network ≡ true → drained r ≡ drainOf network budget) ⌝ }
+{
+    if (CAPACITY < network.count) | (QUEUE_LIMIT < network.waiting) {
+        return draining::refuse(network);
+    }
+    draining::run(network, budget)
+}
+
 pub fn drain(network: Network, budget: u16) -> Drained
     ensures { λ r. ⌜ drained r ≡ drainOf network budget ⌝ }
 {
-    if !network.is_well_formed() {
-        return Drained {
-            network,
-            answer: DrainAnswer::Refused(Refusal::Malformed),
-        };
+    if network.is_well_formed() {
+        drain_formed(network, budget)
+    } else {
+        draining::refuse(network)
     }
-    draining::run(network, budget)
 }

@@ -3,8 +3,11 @@
 ghost use mathlib.Core.Path.{_≡_};
 ghost use Rattle.network.specs.Arrays.{empty};
 use node::Kind;
+use node::Link;
 use node::Message;
 use node::Node;
+use node::Seq;
+use node::Status;
 
 mod shape;
 
@@ -21,18 +24,35 @@ pub struct Network {
     pub waiting: u8,
 }
 
+// "one fixed blank" in every place: of the nodes, as a node is declared with the key 0, and of the messages. Constants, so that an empty network
+// is copied and not made place by place.
+const VACANT_NODE: Node = Node {
+    status: Status::Out,
+    key: 0,
+    left: Link::Unlinked,
+    right: Link::Unlinked,
+    lseq: 0,
+    rseq: Seq::Unset,
+};
+
+const VACANT_NODES: [Node; 32] = [VACANT_NODE; 32];
+
+const VACANT_MESSAGE: Message = Message {
+    sender: 0,
+    to: 0,
+    kind: Kind::SetRNak,
+};
+
+const VACANT_MESSAGES: [Message; 64] = [VACANT_MESSAGE; 64];
+
 impl Network {
     pub fn empty() -> Network
         ensures { λ r. ⌜ r ≡ empty ⌝ }
     {
         Network {
-            nodes: [Node::declared(0); 32],
+            nodes: VACANT_NODES,
             count: 0,
-            messages: [Message {
-                sender: 0,
-                to: 0,
-                kind: Kind::SetRNak,
-            }; 64],
+            messages: VACANT_MESSAGES,
             waiting: 0,
         }
     }

@@ -2,8 +2,12 @@
 // tests it first, and refuses 6 there. Each contract is an equation with the rules of the crate `protocol` on the lists that the network's
 // arrays hold.
 ghost use mathlib.Core.Path.{_≡_};
+ghost use mathlib.Core.Bool.{true};
+ghost use Rattle.network.specs.Arrays.{wellFormed};
 ghost use Rattle.questions.specs.Answers.{membersOf, insertedSaid, ownerOf, ownerSaid};
+use network::CAPACITY;
 use network::Network;
+use network::QUEUE_LIMIT;
 use refusal::Refusal;
 
 mod members;
@@ -37,13 +41,16 @@ pub fn inserted(network: Network) -> MembersAnswer
     }
 }
 
-pub fn owner(network: Network, start: u8, serial: u32) -> OwnerAnswer
-    ensures { λ r. ⌜ ownerSaid r ≡ ownerOf network start serial ⌝ }
+// The owner of a serial in a network that its holder knows to be well formed: no test of the whole network is made. On any other network
+// the question is safe and ends, and nothing is said of its answer; who does not know asks `owner`.
+pub fn owner_formed(network: Network, start: u8, serial: u32) -> OwnerAnswer
+    ensures { λ r. ⌜ (wellFormed network ≡ true → ownerSaid r ≡ ownerOf network start serial) ⌝ }
 {
-    if !network.is_well_formed() {
+    let count = network.count;
+    if (CAPACITY < count) | (QUEUE_LIMIT < network.waiting) {
         return OwnerAnswer::Refused(Refusal::Malformed);
     }
-    if network.count <= start {
+    if count <= start {
         return OwnerAnswer::Refused(Refusal::Undeclared);
     }
     if !serial::in_range(serial) {
@@ -53,4 +60,14 @@ pub fn owner(network: Network, start: u8, serial: u32) -> OwnerAnswer
         return OwnerAnswer::Refused(Refusal::StartNotInserted);
     }
     owning::walk(network, start, serial)
+}
+
+pub fn owner(network: Network, start: u8, serial: u32) -> OwnerAnswer
+    ensures { λ r. ⌜ ownerSaid r ≡ ownerOf network start serial ⌝ }
+{
+    if network.is_well_formed() {
+        owner_formed(network, start, serial)
+    } else {
+        OwnerAnswer::Refused(Refusal::Malformed)
+    }
 }

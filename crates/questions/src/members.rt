@@ -45,6 +45,22 @@ pub(crate) fn acknowledged(messages: [Message; 64], waiting: usize) -> [bool; 32
     acks
 }
 
+// Whether a SetRAck to this node waits.
+pub(crate) fn ack_waits(messages: [Message; 64], waiting: usize, node: u8) -> bool
+    requires { ⌜ waiting ≤ 64 ⌝ }
+    ensures { λ r. ⌜ r ≡ any (isAckTo node) (take waiting messages) ⌝ }
+{
+    let mut found = false;
+    let mut i: usize = 0;
+    while i < waiting {
+        let message = messages[i];
+        let kind = message.kind;
+        found = found | (is_ack(kind) & (message.to == node));
+        i += 1;
+    }
+    found
+}
+
 pub(crate) fn is_inserted(status: Status, acknowledged: bool) -> bool
     ensures { λ r. ⌜ r ≡ isInserted status acknowledged ⌝ }
 {

@@ -1,66 +1,67 @@
 -- `calls::formed::deliver` meets its contract: 29 where no message waits; else the check says what the rules say, and either way the
--- call is the definition's. Assumes nothing.
+-- call is the definition's. That a message is for no node is not met on a well-formed network. Assumes nothing.
 use Prim.Native.Nat.{_-_}
-use mathlib.Core.Path.{ap, _∙_}
+use mathlib.Core.Path.{_≡_, _∙_}
+use mathlib.Core.Bool.{true}
 use native.Mathlib.Omega.{arith}
 use borrow.Author.Needs.{needs}
-use lib.ListN.{getD}
+use Rattle.sequence.specs.Sequence.{firstSeq}
 use Rattle.node.specs.Actions.{effect}
 use Rattle.protocol.specs.declared.Call.the-variants.{Deliver}
-use Rattle.network.specs.declared.Network.{Network}
-use Rattle.calls.specs.Changes.{committed}
+use Rattle.protocol.specs.Calls.{messageAt, receiving}
+use Rattle.network.specs.Arrays.{vacantNode, live, wellFormed}
 use Rattle.network.proofs.Lengths.{lengths}
 use Rattle.network.proofs.Places.{zeroMessage}
-use Rattle.calls.proofs.CallLaws.{few-nodes, few-messages, addressee-read, no-message, deliver-says-here, room-cleared, refuses-by, delivered-by}
+use Rattle.calls.proofs.CallLaws.{few-nodes, addressee-read, received-here, no-message, deliver-says-here, room-cleared, refuses-by, delivered-by}
 use Rattle.calls.proofs.formed.deliver.Statement.{statement}
 use Rattle.calls.proofs.formed.deliver.Tie as tie
 
+-- where the place has been read
+abbrev waits : tie.After-check-room → tie.Else1
+waits k = k .before .before .before .before .before
+
+-- the step is that of the list's node on the list's message
+step : (k : tie.After-check-room) → let args = waits k .before .args in wellFormed (args .t1) ≡ true → effect (k .before .receive .result) ≡ receiving (live (args .t1)) (messageAt (live (args .t1)) (args .place))
+unfolding firstSeq
+step k h =
+    let start = waits k .before in
+    k .before .receive .ensures ∙ received-here (start .args .t1) (lengths _ _ (start .good .0)) h (start .args .place) zeroMessage vacantNode (waits k .if1 .left)
+
 returns : tie.Need-returns
-returns c =
+returns c h =
     let start = c .before .before in
-    c .refuse .ensures ∙ no-message (start .args .t1) (lengths _ _ (start .good .0)) (start .pre) (start .args .place) (c .before .if1 .taken)
-
-element-copy-out-message : tie.Need-element-copy-out-message
-element-copy-out-message c = omega (arith, few-messages (c .before .args .t1) (lengths _ _ (c .before .good .0)) (c .before .pre))
-
-check-room-requires : tie.Need-check-room-requires
-check-room-requires c κs =
-    let start = c .before .before .before in
-    omega (arith, few-messages (start .args .t1) (lengths _ _ (start .good .0)) (start .pre))
-
-close-requires : tie.Need-close-requires
-close-requires c κs =
-    let start = c .before .before .before .before .before .before in
-    (c .before .before .before .before .before .if1 .left, few-messages (start .args .t1) (lengths _ _ (start .good .0)) (start .pre))
-
-commit-requires : tie.Need-commit-requires
-commit-requires c κs =
-    let checked = c .before .before .before in
-    let start = checked .before .before .before .before in
-    let n = start .args .t1 in
-    let l = lengths _ _ (start .good .0) in
-    let to = addressee-read n l (start .pre) (start .args .place) zeroMessage (checked .before .before .before .if1 .left) in
-    let room = room-cleared (n .waiting - 1) (effect (checked .before .receive .result) .posts) (checked .check-room .ensures) (c .before .enum-told .given .1) in
-    (omega (arith, to, few-nodes n l (start .pre)), rw (c .close .ensures) room)
+    c .refuse .ensures ∙ no-message (start .args .t1) (lengths _ _ (start .good .0)) h (start .args .place) (c .before .if1 .taken)
 
 returns-2 : tie.Need-returns-2
-returns-2 c =
-    let checked = c .before .before .before .before in
-    let start = checked .before .before .before .before in
+returns-2 c h =
+    let waiting = c .before .before .before in
+    let start = waiting .before in
     let n = start .args .t1 in
     let l = lengths _ _ (start .good .0) in
-    let says = deliver-says-here n l (start .pre) (start .args .place) (effect (checked .before .receive .result)) (checked .before .before .before .if1 .left) (checked .before .receive .ensures) in
-    c .refuse2 .ensures ∙ refuses-by n l (start .pre) (Deliver (start .args .place)) (checked .check-room .ensures ∙ says) (c .before .before .refusal .given .1)
+    absurd (omega (arith, few-nodes n l h, addressee-read n l h (start .args .place) zeroMessage (waiting .if1 .left), c .before .if2 .taken))
+
+commit-delivery-requires : tie.Need-commit-delivery-requires
+commit-delivery-requires c κs =
+    let k = c .before .before in
+    let start = waits k .before in
+    let room = room-cleared (start .args .t1 .waiting - 1) (effect (k .before .receive .result) .posts) (k .check-room .ensures) (c .enum-told .given .1) in
+    (waits k .if1 .left, start .pre .1, omega (arith, k .before .before .before .if2 .left), room)
 
 returns-3 : tie.Need-returns-3
-returns-3 c =
-    let checked = c .before .before .before .before in
-    let start = checked .before .before .before .before in
+returns-3 c h =
+    let k = c .before .before .before .before in
+    let start = waits k .before in
     let n = start .args .t1 in
-    let step = effect (checked .before .receive .result) in
-    c .commit .ensures
-    ∙ ap (λ (m : Network). committed m (getD (n .messages) (start .args .place) zeroMessage .to) step) (c .before .close .ensures)
-    ∙ delivered-by n (lengths _ _ (start .good .0)) (start .pre) (start .args .place) zeroMessage step (checked .before .before .before .if1 .left) (checked .before .receive .ensures) (checked .check-room .ensures) (c .before .before .enum-told .given .1)
+    let l = lengths _ _ (start .good .0) in
+    let says = deliver-says-here n l h (start .args .place) (effect (k .before .receive .result)) (waits k .if1 .left) (step k h) in
+    c .refuse3 .ensures ∙ refuses-by n l h (Deliver (start .args .place)) (k .check-room .ensures ∙ says) (c .before .before .refusal .given .1)
+
+returns-4 : tie.Need-returns-4
+returns-4 c h =
+    let k = c .before .before .before in
+    let start = waits k .before in
+    c .commit-delivery .ensures
+    ∙ delivered-by (start .args .t1) (lengths _ _ (start .good .0)) h (start .args .place) zeroMessage (effect (k .before .receive .result)) (waits k .if1 .left) (step k h) (k .check-room .ensures) (c .before .enum-told .given .1)
 
 pub deliver-spec : {M : Type 1} → statement M
 deliver-spec =
@@ -69,14 +70,18 @@ deliver-spec =
     (λ c κs. tt)
     returns
     (λ c. search needs)
-    element-copy-out-message
-    (λ c κs. search needs)
     (λ c. search needs)
-    check-room-requires
+    (λ c κs. tt)
+    returns-2
+    (λ c. search needs)
+    (λ c. search needs)
     (λ c. search needs)
     (λ c κs. tt)
     (λ c. search needs)
-    close-requires
-    commit-requires
-    returns-2
-    returns-3)
+    (λ c κs. search needs)
+    (λ c. search needs)
+    (λ c κs. tt)
+    (λ c. search needs)
+    commit-delivery-requires
+    returns-3
+    returns-4)

@@ -1,11 +1,12 @@
--- `network::Network::empty` meets its contract: each place holds its blank. Assumes nothing.
-use lib.ListN.{replicate}
-use Rattle.network.specs.Arrays.{vacantMessage}
+-- `network::Network::empty` meets its contract: each place holds its blank, by computation. Assumes nothing.
+use mathlib.Core.Path.{refl}
+use Rattle.sequence.specs.Sequence.{firstSeq}
 use Rattle.network.proofs.Network.empty.Statement.{statement}
 use Rattle.network.proofs.Network.empty.Tie as tie
 
 returns : tie.Need-returns
-returns c = λ i. record { nodes = replicate 32 (c .declared .ensures i); count = 0; messages = replicate 64 vacantMessage; waiting = 0 }
+unfolding firstSeq
+returns c = refl
 
 pub empty-spec : {M : Type 1} → statement M
-empty-spec = tie.close (tie.spec (λ c κs. tt) returns)
+empty-spec = tie.close (tie.spec returns)
