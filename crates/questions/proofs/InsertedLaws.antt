@@ -1,7 +1,8 @@
 -- The walks that say who is inserted: flags that are set one by one say which numbers were met, and a word that is or-ed bit by bit says
 -- which numbers pass a test. In a well-formed network these flags and this word are those of its lists. Assumes nothing.
 use mathlib.Core.Path.{_≡_, refl, sym, ap, _∙_}
-use mathlib.Core.Bool.{Bool, true, false, _||_}
+use mathlib.Core.Logic.{⊎-elim}
+use mathlib.Core.Bool.{Bool, true, false, _&&_, _||_}
 use mathlib.Core.List.{List}
 use Prim.Native.Nat.{ℕ, suc, _*_, _^_, _%_, _<_, _≤_}
 use native.Mathlib.Nat.{one-mul}
@@ -9,20 +10,19 @@ use native.Mathlib.Decide.{ℕ-discrete}
 use native.Mathlib.Omega.{arith}
 use lib.ListN.{length, take, getD, set, replicate, length-set, getD-replicate}
 use lib.Seq.{getD-set-same, getD-set-other}
-use lib.Dec.{eqb}
+use lib.Dec.{eqb, ltb}
 use lib.Pow.{shl-exact}
 use lib.Bits.{bitOr}
 use lib.Count.{ones}
-use borrow.Author.Tests.{ltb-true, eq-eqb, ne-eqb}
-use Rattle.truth.specs.Tests.{any, every, wordBelow}
-use Rattle.truth.proofs.Laws.{or-right, or-false}
-use Rattle.truth.proofs.TestLaws.{any-take}
+use borrow.Author.Tests.{ltb-false, eq-eqb, ne-eqb}
+use Rattle.truth.specs.Tests.{any, wordBelow}
+use Rattle.truth.proofs.Laws.{or-right, or-false, and-false}
+use Rattle.truth.proofs.TestLaws.{decided, any-take}
 use Rattle.truth.proofs.WordLaws.{words-agree, word-ones, word-with, word-without, word-or}
 use Rattle.refusal.specs.Rules.{Coded, done}
 use Rattle.node.specs.declared.Node.{Node}
 use Rattle.node.specs.declared.Message.{Message}
-use Rattle.node.specs.Shape.{messageFits, capacity}
-use Rattle.node.proofs.FitLaws.{message-facts}
+use Rattle.node.specs.Shape.{capacity}
 use Rattle.protocol.specs.State.{isAck, isAckTo, ackWaits, isInserted, inserted}
 use Rattle.protocol.specs.Questions.{Members, membersOf as membersOfLists}
 use Rattle.network.specs.declared.Network.{Network}
@@ -30,15 +30,9 @@ use Rattle.network.specs.Arrays.{vacantNode, live, wellFormed}
 use Rattle.questions.specs.Answers.{membersOf}
 use Rattle.network.proofs.Lengths.{Lengths}
 use Rattle.network.proofs.ArrayLaws.{formed}
-use Rattle.network.proofs.Places.{element-passes}
 use Rattle.network.proofs.LiveLaws.{nodes-length, node-live}
 
 -- ---- flags
--- a message that fits is to one of the nodes that there can be
-pub addressee-small : (messages : List Message) (n : ℕ) → every (messageFits capacity) (take n messages) ≡ true → n ≤ length messages
-    → (i : ℕ) (d : Message) → i < n → getD messages i d .to < capacity
-addressee-small messages n h few i d k = ltb-true _ _ (message-facts capacity _ (element-passes (messageFits capacity) d messages n few h i k) .to)
-
 -- one more flag set
 flagged : (flags : List Bool) (i u : ℕ) → i < length flags → getD (set flags i true) u false ≡ (getD flags u false || eqb i u)
 flagged flags i u k = go (ℕ-discrete u i)
@@ -66,9 +60,18 @@ module _ (messages : List Message) (acks : List Bool) (i : ℕ) (d : Message) (k
     flags = λ u j. rw (any-take (isAckTo u) messages i d k, e, ← known .flags u j) (flagged acks (getD messages i d .to) u (rw (known .places) small));
   }
 
-  -- it is none
-  pub flags-kept : isAck (getD messages i d .kind) ≡ false → Acknowledged messages acks (suc i)
-  flags-kept e = record { places = known .places; flags = λ u j. rw (any-take (isAckTo u) messages i d k, e, or-false) (known .flags u j) }
+  -- it is none, or to a number that no node can have
+  pub flags-kept : (isAck (getD messages i d .kind) && ltb (getD messages i d .to) capacity) ≡ false → Acknowledged messages acks (suc i)
+  flags-kept e = record { places = known .places; flags = λ u j. rw (any-take (isAckTo u) messages i d k, not-to u j, or-false) (known .flags u j) }
+    where
+      not-to : (u : ℕ) → u < capacity → isAckTo u (getD messages i d) ≡ false
+      not-to u j =
+          ⊎-elim
+          (λ t.
+          let past : capacity ≤ getD messages i d .to = ltb-false (getD messages i d .to) capacity (rw t at e) in
+          rw (ne-eqb (getD messages i d .to) u (λ same. absurd (omega (arith, past, same)))) (and-false (isAck (getD messages i d .kind))))
+          (λ f. rw f)
+          (decided (isAck (getD messages i d .kind)))
 
 -- ---- the word
 module _ (test : ℕ → Bool) (word n : ℕ) (so-far : word ≡ wordBelow n test) where

@@ -1,12 +1,12 @@
 // Who is inserted: the messages are walked once for the SetRAcks that wait, and then the nodes once.
 ghost use mathlib.Core.Path.{_≡_};
-ghost use mathlib.Core.Bool.{true, false};
+ghost use mathlib.Core.Bool.{false};
 ghost use Prim.Native.Nat.{ℕ, _<_, _≤_};
 ghost use lib.ListN.{getD, take};
-ghost use Rattle.truth.specs.Tests.{any, every, wordBelow};
-ghost use Rattle.node.specs.Shape.{messageFits};
+ghost use Rattle.truth.specs.Tests.{any, wordBelow};
 ghost use Rattle.protocol.specs.State.{isAck, isAckTo, isInserted};
 ghost use Rattle.network.specs.Arrays.{vacantNode};
+use network::CAPACITY;
 use node::Kind;
 use node::Message;
 use node::Node;
@@ -29,7 +29,7 @@ fn is_ack(kind: Kind) -> bool
 
 // To which nodes a SetRAck waits, by one walk over the messages.
 pub(crate) fn acknowledged(messages: [Message; 64], waiting: usize) -> [bool; 32]
-    requires { ⌜ (waiting ≤ 64) × (every (messageFits 32) (take waiting messages) ≡ true) ⌝ }
+    requires { ⌜ waiting ≤ 64 ⌝ }
     ensures { λ r. ⌜ ((u : ℕ) → u < 32 → getD r u false ≡ any (isAckTo u) (take waiting messages)) ⌝ }
 {
     let mut acks = [false; 32];
@@ -37,28 +37,13 @@ pub(crate) fn acknowledged(messages: [Message; 64], waiting: usize) -> [bool; 32
     while i < waiting {
         let message = messages[i];
         let kind = message.kind;
-        if is_ack(kind) {
-            acks[message.to as usize] = true;
+        let to = message.to;
+        if is_ack(kind) & (to < CAPACITY) {
+            acks[to as usize] = true;
         }
         i += 1;
     }
     acks
-}
-
-// Whether a SetRAck to this node waits.
-pub(crate) fn ack_waits(messages: [Message; 64], waiting: usize, node: u8) -> bool
-    requires { ⌜ waiting ≤ 64 ⌝ }
-    ensures { λ r. ⌜ r ≡ any (isAckTo node) (take waiting messages) ⌝ }
-{
-    let mut found = false;
-    let mut i: usize = 0;
-    while i < waiting {
-        let message = messages[i];
-        let kind = message.kind;
-        found = found | (is_ack(kind) & (message.to == node));
-        i += 1;
-    }
-    found
 }
 
 pub(crate) fn is_inserted(status: Status, acknowledged: bool) -> bool

@@ -20,11 +20,9 @@ pub(crate) fn starts(network: Network, start: u8) -> bool
 {
     let node = network.nodes[start as usize];
     let messages = network.messages;
+    let acks = members::acknowledged(messages, network.waiting as usize);
     let status = node.status;
-    members::is_inserted(
-        status,
-        members::ack_waits(messages, network.waiting as usize, start),
-    )
+    members::is_inserted(status, acks[start as usize])
 }
 
 pub(crate) fn walk(network: Network, start: u8, serial: u32) -> OwnerAnswer

@@ -7,7 +7,6 @@ use Rattle.network.specs.Arrays.{wellFormed}
 use Rattle.questions.specs.Answers.{membersOf}
 use Rattle.network.proofs.Lengths.{lengths}
 use Rattle.network.proofs.ArrayLaws.{formed}
-use Rattle.network.proofs.LiveLaws.{messages-fit}
 use Rattle.questions.proofs.InsertedLaws.{members-live}
 use Rattle.questions.proofs.inserted.Statement.{statement}
 use Rattle.questions.proofs.inserted.Tie as tie
@@ -20,10 +19,7 @@ unfolding membersOf
 returns c = rw (sym (c .before .is-well-formed .ensures) ∙ not-true _ (c .if1 .taken))
 
 acknowledged-requires : tie.Need-acknowledged-requires
-acknowledged-requires c κs =
-    let start = c .before .before .before .before .before in
-    let w = well-formed (c .before .before .before) in
-    (formed _ w .few-messages, messages-fit (start .args .network) (lengths _ _ (start .good .0)) w)
+acknowledged-requires c κs = formed _ (well-formed (c .before .before .before)) .few-messages
 
 word-of-requires : tie.Need-word-of-requires
 word-of-requires c κs = formed _ (well-formed (c .before .before .before .before)) .few-nodes

@@ -1,16 +1,21 @@
 -- `questions::members::acknowledged` meets its contract: after i turns each flag says whether a SetRAck to its node is among the first i
 -- messages. The measure is what is left of the messages that wait. Assumes nothing.
 use Prim.Native.Nat.{_≤_, _<_, _-_}
-use mathlib.Core.Path.{_≡_, sym, _∙_}
+use mathlib.Core.Path.{_≡_, sym, ap, _∙_}
+use mathlib.Core.Bool.{_&&_}
 use mathlib.Core.Logic.{⊎-elim}
 use native.Mathlib.Omega.{arith}
 use native.Mathlib.Numerals.{add-one}
 use borrow.Author.Needs.{needs}
+use borrow.Author.Tests.{ltb-true}
 use lib.ListN.{length, getD}
+use lib.Dec.{ltb}
+use Rattle.truth.proofs.Laws.{both}
 use Rattle.node.specs.declared.Kind.the-variants.{SetR}
 use Rattle.node.specs.declared.Message.{Message}
 use Rattle.node.specs.Shape.{capacity}
-use Rattle.questions.proofs.InsertedLaws.{addressee-small, Acknowledged, none-acknowledged, flag-set, flags-kept}
+use Rattle.protocol.specs.State.{isAck}
+use Rattle.questions.proofs.InsertedLaws.{Acknowledged, none-acknowledged, flag-set, flags-kept}
 use Rattle.questions.proofs.members.acknowledged.Statement.{statement}
 use Rattle.questions.proofs.members.acknowledged.Tie as tie
 
@@ -27,18 +32,9 @@ abbrev μ-loop : tie.MeasureT-loop
 loop-holds : tie.Need-loop-holds Inv-loop μ-loop
 loop-holds c = (omega arith, none-acknowledged (c .args .t1))
 
--- in a turn the message is to a node that has a flag
-addressee : (c : tie.In-loop Inv-loop μ-loop) → getD (c .before .before .args .t1) (c .before .loop .i) past .to < capacity
-addressee c =
-    let start = c .before .before in
-    let full : length (start .args .t1) ≡ 64 = start .good .0 .1 .0 .1 in
-    addressee-small (start .args .t1) (start .args .waiting) (start .pre .1) (omega arith) (c .before .loop .i) past (omega arith)
-
-cast-acks : tie.Need-cast-acks Inv-loop μ-loop
-cast-acks c = let small = addressee (c .before .before .before .before) in omega arith
-
-array-write-acks : tie.Need-array-write-acks Inv-loop μ-loop
-array-write-acks c = addressee (c .before .before .before .before)
+-- a flag is set for a node that has one
+small : (c : tie.Then1 Inv-loop μ-loop) → let at = c .before .before .before .before in getD (at .before .args .t1) (at .loop .i) past .to < capacity
+small c = ltb-true _ _ (both (c .before .is-ack .result) _ (c .if1 .taken) .1)
 
 loop-again : tie.Need-loop-again Inv-loop μ-loop
 loop-again c =
@@ -46,9 +42,12 @@ loop-again c =
     let at = turn .before in
     let start = at .before in
     let full : length (start .args .t1) ≡ 64 = start .good .0 .1 .0 .1 in
-    let tested = sym (c .before .is-ack .ensures) in
+    let m = getD (start .args .t1) (at .loop .i) past in
+    let tested : (isAck (m .kind) && ltb (m .to) capacity) ≡ (c .before .is-ack .result && ltb (m .to) capacity) = ap (λ ack. ack && ltb (m .to) capacity) (sym (c .before .is-ack .ensures)) in
     ⊎-elim
-    (λ w. rw (add-one, w .2) (omega arith, flag-set (start .args .t1) (at .loop .acks) (at .loop .i) past (omega arith) (at .loop .inv .1) (tested ∙ w .0 .taken) (addressee turn)))
+    (λ w.
+    let (ack, small) = both (isAck (m .kind)) _ (tested ∙ w .0 .taken) in
+    rw (add-one, w .1) (omega arith, flag-set (start .args .t1) (at .loop .acks) (at .loop .i) past (omega arith) (at .loop .inv .1) ack (ltb-true _ _ small)))
     (λ w. rw (add-one, w .1) (omega arith, flags-kept (start .args .t1) (at .loop .acks) (at .loop .i) past (omega arith) (at .loop .inv .1) (tested ∙ w .0 .left)))
     (c .if1 .came)
 
@@ -65,8 +64,8 @@ acknowledged-spec =
     (λ c. search needs)
     (λ c. search needs)
     (λ c κs. tt)
-    cast-acks
-    array-write-acks
+    (λ c. omega (arith, small c))
+    small
     (λ c. search needs)
     (λ c. search needs)
     loop-again
