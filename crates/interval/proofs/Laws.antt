@@ -64,23 +64,7 @@ within-self a u = go (order u a)
     go (same h) = inl h
     go (more h) = inr (all-but a u .1 (omega arith))
 
--- ---- three different keys: going right from a one meets u before b, or b before u, and never both
-pub first-met : (a u b : ℕ) → u ≢ a → b ≢ a → u ≢ b → Between a b u ⊎ Between a u b
-first-met a u b ua ba ub = go (order a b) (order a u) (order u b)
-  where
-    go : Order a b → Order a u → Order u b → Between a b u ⊎ Between a u b
-    go (less h) (less j) (less k) = inl (inside j k)
-    go (less h) (less j) (same k) = absurd (omega arith)
-    go (less h) (less j) (more k) = inr (inside h k)
-    go (less h) (same j) o = absurd (omega arith)
-    go (less h) (more j) o = inr (above (omega arith) h)
-    go (same h) p o = absurd (omega arith)
-    go (more h) (less j) o = inl (above (omega arith) j)
-    go (more h) (same j) o = absurd (omega arith)
-    go (more h) (more j) (less k) = inl (below (omega arith) k)
-    go (more h) (more j) (same k) = absurd (omega arith)
-    go (more h) (more j) (more k) = inr (below (omega arith) k)
-
+-- ---- three different keys: going right from a, u is met before b or b before u
 module _ (a u b : ℕ) where
   pub not-both-met : Between a b u → ¬ Between a u b
   not-both-met (inside h k) (inside i j) = omega arith

@@ -4,15 +4,11 @@ use mathlib.Core.Path.{_≡_, ap, _∙_}
 use mathlib.Core.Bool.{true}
 use Prim.Native.Nat.{ℕ, _<_}
 use native.Mathlib.Omega.{arith}
-use lib.ListN.{length, take, getD}
+use lib.ListN.{length, getD}
 use lib.Seq.{length-take-le, getD-take}
 use borrow.Author.Tests.{ltb-true}
-use Rattle.truth.specs.Tests.{every}
-use Rattle.truth.proofs.TestLaws.{all-pass}
 use Rattle.node.specs.declared.Link.the-variants.{To}
 use Rattle.node.specs.declared.Node.{Node}
-use Rattle.node.specs.Shape.{capacity, messageFits}
-use Rattle.node.proofs.FitLaws.{message-fits-more}
 use Rattle.protocol.specs.State.{nodeAt, rightAt}
 use Rattle.protocol.proofs.Facts.{WellFormed as ListsWellFormed, formed as lists-formed}
 use Rattle.network.specs.declared.Network.{Network}
@@ -38,10 +34,6 @@ module _ (n : Network) (l : Lengths n) (h : wellFormed n ≡ true) where
 
   lists : ListsWellFormed (live n)
   lists = lists-formed (live n) (formed n h .lists)
-
-  -- each message that waits is of nodes that there can be
-  pub messages-fit : every (messageFits capacity) (take (n .waiting) (n .messages)) ≡ true
-  messages-fit = all-pass (messageFits capacity) (live n .messages) (λ m i. message-fits-more (lists .few-nodes) m (lists .message m i))
 
   -- a right link names a node that is declared
   pub right-declared : (u q : ℕ) (d : Node) → u < n .count → getD (n .nodes) u d .right ≡ To q → q < n .count

@@ -34,16 +34,6 @@ pub next-newer : (n : ℕ) → Newer (nextSeq n) n
 unfolding newer nextSeq
 next-newer n = lt→ltb n _ (omega arith)
 
--- nothing lies between a number and the next
-pub next-least : (n m : ℕ) → Newer m n → ¬ Newer (nextSeq n) m
-unfolding newer nextSeq
-next-least n m h j = omega (arith, ltb→lt n m h, ltb→lt m _ j)
-
--- the first number is newer than none
-pub first-oldest : (n : ℕ) → ¬ Newer firstSeq n
-unfolding newer firstSeq
-first-oldest n h = omega (arith, ltb→lt n 0 h)
-
 -- the cap is met at the last number alone
 pub capped-next : (n : ℕ) → hasNext n ≡ true → cappedNext n ≡ nextSeq n
 unfolding cappedNext
