@@ -2,3 +2,6 @@ pub mod RunLaws
 pub mod StepLaws
 pub mod LoopLaws
 pub mod Theorem
+pub mod Rows
+pub mod Walking
+pub mod Stepping

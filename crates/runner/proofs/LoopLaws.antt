@@ -19,22 +19,26 @@ use Rattle.printout.specs.Lines.{heading, lastLine}
 use Rattle.runner.specs.declared.Progress.{Progress}
 use Rattle.runner.specs.Run.{Progress as Reached, start, stepOf, after, closed, sizeLimit, tooLong, printoutOf}
 use Rattle.runner.specs.Reached.{reached}
+use Rattle.runner.proofs.StepLaws.{State, far, MayStep, Stepped}
 use Rattle.runner.proofs.RunLaws.{Within, step-within, one-record, cursor-moves, ended-after}
 
 -- what holds at each turn
-pub record Turn (script text : List ℕ) (p : Progress) : Type 0 where
-  pub arrays : Lengths (p .network)
-  pub sound : wellFormed (p .network) ≡ true
-  pub within : Within script (reached p text)
-  pub come : reached p text ≡ after script (p .ordinal)
-  pub short : p .used ≤ 40 + 40 * p .ordinal
+pub record Turn (script : List ℕ) (x : State) : Type 0 where
+  pub arrays : Lengths (x .network)
+  pub sound : wellFormed (x .network) ≡ true
+  pub within : Within script (far x)
+  pub come : far x ≡ after script (x .progress .ordinal)
+  pub short : x .progress .used ≤ 40 + 40 * x .progress .ordinal
 
 -- ---- before the first record
+abbrev pub begun : ℕ → Progress
+begun used = record { at = 0; ordinal = 0; posted = 0; used = used }
+
 pub first-turn : (script text : List ℕ) (n : Network) (used : ℕ) → Lengths n → n ≡ empty → take used text ≡ heading → used ≤ 40
-    → Turn script text (record { network = n; at = 0; ordinal = 0; posted = 0; used = used })
+    → Turn script (record { network = n; text = text; progress = begun used })
 unfolding listsAreWellFormed
 first-turn script text n used l e printed few =
-    let here : reached (record { network = n; at = 0; ordinal = 0; posted = 0; used = used }) text ≡ start = rw (e, printed, live-held emptyLists) in
+    let here : reached n (begun used) text ≡ start = rw (e, printed, live-held emptyLists) in
     record {
       arrays = l;
       sound = rw e (held-well-formed emptyLists refl);
@@ -44,45 +48,48 @@ first-turn script text n used l e printed few =
     }
 
 -- ---- at any turn over a script within the limit
-module _ (script text : List ℕ) (p : Progress) (t : Turn script text p) (size : length script ≤ sizeLimit) where
-  few-records : p .ordinal ≤ 21_846
+module _ (script : List ℕ) (x : State) (t : Turn script x) (size : length script ≤ sizeLimit) where
+  few-records : x .progress .ordinal ≤ 21_846
   few-records = omega (arith, t .within .few, t .within .inside)
 
-  pub room : p .used + 40 ≤ 1_000_000 - 40
+  pub room : x .progress .used + 40 ≤ 1_000_000 - 40
   room = omega (arith, few-records, t .short)
 
-  pub may-step : (wellFormed (p .network) ≡ true) × (p .ordinal < 100_000) × (p .posted < 100_000_000)
-  may-step = (t .sound, omega (arith, few-records), omega (arith, few-records, t .within .posts))
+  pub may-step : MayStep x
+  may-step = (t .sound, omega (arith, room), omega (arith, few-records), omega (arith, few-records, t .within .posts))
 
   -- ---- one record more
-  module _ (not-ended : p .at < length script) (text' : List ℕ) (q : Progress) (stepped : reached q text' ≡ stepOf script (reached p text)) where
-    next-ordinal : q .ordinal ≡ p .ordinal + 1
-    next-ordinal = ap (λ (r : Reached). r .ordinal) stepped ∙ one-record script (reached p text) (t .within) not-ended
+  module _ (not-ended : x .progress .at < length script) (y : State) (stepped : Stepped script x y) where
+    next-ordinal : y .progress .ordinal ≡ x .progress .ordinal + 1
+    next-ordinal = ap (λ (r : Reached). r .ordinal) (stepped .0) ∙ one-record script (far x) (t .within) not-ended
 
-    pub next-cursor : p .at < q .at
-    next-cursor = rw (ap (λ (r : Reached). r .at) stepped) (cursor-moves script (reached p text) (t .within) not-ended)
-
-    pub next-turn : Lengths (q .network) → wellFormed (q .network) ≡ true → q .used ≤ p .used + 40 → Turn script text' q
-    next-turn l sound short = record {
+    pub next-turn : Lengths (y .network) → Turn script y
+    next-turn l = record {
       arrays = l;
-      sound = sound;
-      within = rw stepped (step-within script (reached p text) (t .within) not-ended);
-      come = stepped ∙ ap (stepOf script) (t .come) ∙ ap (after script) (sym (next-ordinal ∙ add-one (p .ordinal)));
-      short = omega (arith, t .short, next-ordinal);
+      sound = stepped .1;
+      within = rw (stepped .0) (step-within script (far x) (t .within) not-ended);
+      come = stepped .0 ∙ ap (stepOf script) (t .come) ∙ ap (after script) (sym (next-ordinal ∙ add-one (x .progress .ordinal)));
+      short = omega (arith, t .short, next-ordinal, stepped .2);
     }
 
-  -- ---- after the last record
-  all-records : length script ≤ p .at → after script (length script) ≡ reached p text
-  all-records past =
-      let fewer : p .ordinal ≤ length script = omega (arith, t .within .few, t .within .inside) in
-      let there : length script ≤ after script (p .ordinal) .at = rw (ap (λ (r : Reached). r .at) (sym (t .come))) past in
-      ap (after script) (sym (sub-add-cancel fewer)) ∙ ended-after script (p .ordinal) (length script - p .ordinal) there ∙ sym (t .come)
+    -- the cursor moves, so that there is less of the script left
+    pub next-cursor : length script - y .progress .at < length script - x .progress .at
+    next-cursor =
+        let moves : x .progress .at < y .progress .at = rw (ap (λ (r : Reached). r .at) (stepped .0)) (cursor-moves script (far x) (t .within) not-ended) in
+        omega (arith, moves, not-ended)
 
-  pub whole-printout : length script ≤ p .at → (text' : List ℕ) (r : ℕ) → take r text' ≡ take (p .used) text ++ lastLine (p .network .waiting) (p .posted)
+  -- ---- after the last record
+  all-records : length script ≤ x .progress .at → after script (length script) ≡ far x
+  all-records past =
+      let fewer : x .progress .ordinal ≤ length script = omega (arith, t .within .few, t .within .inside) in
+      let there : length script ≤ after script (x .progress .ordinal) .at = rw (ap (λ (r : Reached). r .at) (sym (t .come))) past in
+      ap (after script) (sym (sub-add-cancel fewer)) ∙ ended-after script (x .progress .ordinal) (length script - x .progress .ordinal) there ∙ sym (t .come)
+
+  pub whole-printout : length script ≤ x .progress .at → (text' : List ℕ) (r : ℕ) → take r text' ≡ take (x .progress .used) (x .text) ++ lastLine (x .network .waiting) (x .progress .posted)
       → take r text' ≡ closed (after script (length script))
   whole-printout past text' r printed =
       printed
-      ∙ ap (λ (waiting : ℕ). take (p .used) text ++ lastLine waiting (p .posted)) (sym (messages-length (p .network) (t .arrays) (t .sound)))
+      ∙ ap (λ (waiting : ℕ). take (x .progress .used) (x .text) ++ lastLine waiting (x .progress .posted)) (sym (messages-length (x .network) (t .arrays) (t .sound)))
       ∙ ap closed (sym (all-records past))
 
 -- ---- by the size of the script

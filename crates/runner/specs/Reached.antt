@@ -2,10 +2,11 @@
 use Prim.Native.Nat.{ℕ}
 use mathlib.Core.List.{List}
 use lib.ListN.{take}
+use Rattle.network.specs.declared.Network.{Network}
 use Rattle.network.specs.Arrays.{live}
 use Rattle.runner.specs.declared.Progress.{Progress}
 use Rattle.runner.specs.Run.{Progress as ProgressOfLists}
 
--- the printout so far stands at the start of a buffer
-abbrev pub reached : Progress → List ℕ → ProgressOfLists
-reached p buffer = record { state = live (p .network); at = p .at; ordinal = p .ordinal; posted = p .posted; text = take (p .used) buffer }
+-- the network beside the progress; the printout so far stands at the start of a buffer
+abbrev pub reached : Network → Progress → List ℕ → ProgressOfLists
+reached n p buffer = record { state = live n; at = p .at; ordinal = p .ordinal; posted = p .posted; text = take (p .used) buffer }

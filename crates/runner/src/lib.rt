@@ -18,13 +18,18 @@ use script::Reading;
 // "A script is at most 65,536 bytes."
 pub const SIZE_LIMIT: usize = 65_536;
 
-// How far a run has come: the network, the cursor, the ordinal of the last record, all messages posted, and the bytes printed.
+// How far a run has come beside the network: the cursor, the ordinal of the last record, all messages posted, and the bytes printed.
 struct Progress {
-    network: Network,
     at: usize,
     ordinal: u32,
     posted: u32,
     used: usize,
+}
+
+// What a step by value hands back: the network and the progress after it.
+struct Turned {
+    network: Network,
+    progress: Progress,
 }
 
 fn put_line(text: &mut [u8], at: usize, ordinal: u32, what: Said) -> usize
@@ -47,57 +52,83 @@ fn put_last(text: &mut [u8], at: usize, waiting: u8, posted: u32) -> usize
     text::append(text, at, &line[..n])
 }
 
-// One more record: its line is printed, and the cursor is past it. Where the reading stops, the cursor goes to the end.
-fn step(script: &[u8], text: &mut [u8], p: Progress) -> Progress
-    requires { ⌜ (wellFormed (p .network) ≡ true) × (p .used + 40 ≤ length (now text)) × (p .ordinal < 100_000) × (p .posted < 100_000_000) ⌝ }
-    ensures { λ r. ⌜ reached r (now (text .exit)) ≡ stepOf (now (script .entry)) (reached p (now (text .entry))) ⌝ }
-    ensures { λ r. ⌜ (wellFormed (r .network) ≡ true) × (r .used ≤ p .used + 40) ⌝ }
+// One more record, by value: its line is printed, and the cursor is past it. Where the reading stops, the cursor goes to the end.
+fn turn(network: Network, script: &[u8], text: &mut [u8; 1048576], p: Progress) -> Turned
+    requires { ⌜ (wellFormed network ≡ true) × (p .used + 40 ≤ 1_048_576) × (p .ordinal < 100_000) × (p .posted < 100_000_000) ⌝ }
+    ensures { λ r. ⌜ (reached (r .network) (r .progress) (now (text .exit)) ≡ stepOf (now (script .entry)) (reached network p (now (text .entry))))
+        × (wellFormed (r .network) ≡ true) × (r .progress .used ≤ p .used + 40) ⌝ }
 {
-    let network = p.network;
     let at = p.at;
     let ordinal = p.ordinal + 1;
     match script::read(script, at) {
-        Reading::End => p,
-        Reading::Stopped(refusal) => Progress {
+        Reading::End => Turned {
             network,
-            at: script.len(),
-            ordinal,
-            posted: p.posted,
-            used: put_line(text, p.used, ordinal, Said::Refused(refusal)),
+            progress: p,
         },
+        Reading::Stopped(refusal) => {
+            let used = put_line(text, p.used, ordinal, Said::Refused(refusal));
+            let progress = Progress {
+                at: script.len(),
+                ordinal,
+                posted: p.posted,
+                used,
+            };
+            Turned { network, progress }
+        }
         Reading::Next { record, after } => {
-            let performed = records::perform(network, record);
+            let performed = records::perform_formed(network, record);
             let network = performed.network;
             let what = performed.said;
-            Progress {
-                network,
+            let posted = p.posted + performed.posted;
+            let used = put_line(text, p.used, ordinal, what);
+            let progress = Progress {
                 at: after,
                 ordinal,
-                posted: p.posted + performed.posted,
-                used: put_line(text, p.used, ordinal, what),
-            }
+                posted,
+                used,
+            };
+            Turned { network, progress }
         }
     }
 }
 
-// The records of a script one after the other, after the heading, and the last line.
-fn run(script: &[u8], text: &mut [u8], start: usize) -> usize
-    requires { ⌜ (take start (now text) ≡ heading) × (start ≤ 40) × (length (now script) ≤ sizeLimit) × (1_000_000 ≤ length (now text)) ⌝ }
-    ensures { λ r. ⌜ take r (now (text .exit)) ≡ closed (after (now (script .entry)) (length (now (script .entry)))) ⌝ }
-    ensures { λ r. ⌜ r ≤ 1_000_000 ⌝ }
+// The same on a network in place: the next one stands where the old one stood.
+fn step(network: &mut Network, script: &[u8], text: &mut [u8; 1048576], p: Progress) -> Progress
+    requires { ⌜ (wellFormed (now network) ≡ true) × (p .used + 40 ≤ 1_048_576) × (p .ordinal < 100_000) × (p .posted < 100_000_000) ⌝ }
+    ensures { λ r. ⌜ (reached (now (network .exit)) r (now (text .exit)) ≡ stepOf (now (script .entry)) (reached (now (network .entry)) p (now (text .entry))))
+        × (wellFormed (now (network .exit)) ≡ true) × (r .used ≤ p .used + 40) ⌝ }
 {
+    let turned = turn(*network, script, text, p);
+    *network = turned.network;
+    turned.progress
+}
+
+// The last line, after all the records.
+fn finish(text: &mut [u8; 1048576], network: Network, p: Progress) -> usize
+    requires { ⌜ p .used + 40 ≤ 1_048_576 ⌝ }
+    ensures { λ r. ⌜ (take r (now (text .exit)) ≡ take (p .used) (now (text .entry)) ++ lastLine (network .waiting) (p .posted))
+        × (r ≤ p .used + 40) × (1_048_576 ≡ length (now (text .exit))) ⌝ }
+{
+    put_last(text, p.used, network.waiting, p.posted)
+}
+
+// The records of a script one after the other on one network in place, after the heading, and the last line.
+fn run(script: &[u8], text: &mut [u8; 1048576], start: usize) -> usize
+    requires { ⌜ (take start (now text) ≡ heading) × (start ≤ 40) × (length (now script) ≤ sizeLimit) ⌝ }
+    ensures { λ r. ⌜ (take r (now (text .exit)) ≡ closed (after (now (script .entry)) (length (now (script .entry)))))
+        × (r ≤ 1_000_000) × (1_048_576 ≡ length (now (text .exit))) ⌝ }
+{
+    let mut network = Network::empty();
     let mut p = Progress {
-        network: Network::empty(),
         at: 0,
         ordinal: 0,
         posted: 0,
         used: start,
     };
     while p.at < script.len() {
-        p = step(script, text, p);
+        p = step(&mut network, script, text, p);
     }
-    let network = p.network;
-    put_last(text, p.used, network.waiting, p.posted)
+    finish(text, network, p)
 }
 
 // A script that is too long is refused as a whole.

@@ -18,7 +18,7 @@ run-requires : tie.Need-run-requires
 run-requires c κs =
     let put = c .before .before in
     let (reads, few) = line-put _ _ _ _ 0 _ (put .append .ensures) refl (omega arith) (omega arith) in
-    (reads, few, c .before .if1 .left, omega (arith, put .append .kept .0))
+    (reads, few, c .before .if1 .left)
 
 returns : tie.Need-returns
 returns c =
@@ -29,8 +29,8 @@ returns c =
 returns-2 : tie.Need-returns-2
 returns-2 c =
     let tested = c .before .before in
-    let (reads, few) = c .run .ensures in
-    (all-counted _ _ (omega (arith, c .run .kept .1 .0, tested .before .append .kept .0)), reads ∙ sym (not-too-long _ (tested .if1 .left)))
+    let (reads, few, whole) = c .run .ensures in
+    (all-counted _ _ (omega (arith, few, whole)), reads ∙ sym (not-too-long _ (tested .if1 .left)))
 
 pub printout-spec : {M : Type 1} → statement M
 printout-spec =
