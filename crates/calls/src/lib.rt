@@ -3,7 +3,6 @@
 ghost use mathlib.Core.Path.{_≡_};
 ghost use mathlib.Core.Bool.{true};
 ghost use Rattle.network.specs.Arrays.{wellFormed};
-ghost use Rattle.protocol.specs.declared.Call.the-variants.{Declare, Create, Join, Leave, Deliver};
 ghost use Rattle.calls.specs.Outcomes.{called, applyOf, drained, drainOf};
 use network::CAPACITY;
 use network::Network;
@@ -66,36 +65,6 @@ pub fn apply(network: Network, call: Call) -> Called
     } else {
         formed::refuse(network, Refusal::Malformed)
     }
-}
-
-pub fn declare(network: Network, key: u32) -> Called
-    ensures { λ r. ⌜ called r ≡ applyOf network (Declare key) ⌝ }
-{
-    apply(network, Call::Declare(key))
-}
-
-pub fn create(network: Network, node: u8) -> Called
-    ensures { λ r. ⌜ called r ≡ applyOf network (Create node) ⌝ }
-{
-    apply(network, Call::Create(node))
-}
-
-pub fn join(network: Network, node: u8, left: u8, right: u8) -> Called
-    ensures { λ r. ⌜ called r ≡ applyOf network (Join node left right) ⌝ }
-{
-    apply(network, Call::Join { node, left, right })
-}
-
-pub fn leave(network: Network, node: u8) -> Called
-    ensures { λ r. ⌜ called r ≡ applyOf network (Leave node) ⌝ }
-{
-    apply(network, Call::Leave(node))
-}
-
-pub fn deliver(network: Network, place: u8) -> Called
-    ensures { λ r. ⌜ called r ≡ applyOf network (Deliver place) ⌝ }
-{
-    apply(network, Call::Deliver(place))
 }
 
 // A drain of a network that its holder knows to be well formed, as `apply_formed`.
