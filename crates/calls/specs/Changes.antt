@@ -1,5 +1,5 @@
--- What the calls write into a network's arrays: a node in its place, one node more, messages at the end, a gap closed; and how the code comes
--- to a refusal after a node's step. What these make of the lists that the arrays hold is proved in `proofs/`. Definitions only.
+-- What the calls write into a network's arrays: a node in its place, one node more, messages at the end, a gap closed; and the tests by which
+-- the code comes to a refusal. What these make of the lists that the arrays hold is proved in `proofs/`. Definitions only.
 use Prim.Native.Nat.{ℕ, _+_, _-_}
 use mathlib.Core.List.{List, [], _∷_, _++_}
 use mathlib.Core.Bool.{not}

@@ -1,5 +1,6 @@
-// The calls on a network by value, and a drain. Each is handed any network and hands one back; it tests the network first, and refuses 6
-// there. Each contract is an equation with the rules of the crate `protocol` on the lists that the network's arrays hold.
+// The calls on a network by value, and a drain. `apply` and `drain` are handed any network and hand one back: each tests the network first, and
+// refuses 6 there. `apply_formed` and `drain_formed` make no such test, for who knows that the network is well formed. Each contract is an equation
+// with the rules of the crate `protocol` on the lists that the network's arrays hold.
 ghost use mathlib.Core.Path.{_≡_};
 ghost use mathlib.Core.Bool.{true};
 ghost use Rattle.network.specs.Arrays.{wellFormed};
@@ -67,7 +68,7 @@ pub fn apply(network: Network, call: Call) -> Called
     }
 }
 
-// A drain of a network that its holder knows to be well formed, as `apply_formed`.
+// A drain of a network that its holder knows to be well formed; of any other as `apply_formed`.
 pub fn drain_formed(network: Network, budget: u16) -> Drained
     ensures { λ r. ⌜ (wellFormed network ≡ true → drained r ≡ drainOf network budget) ⌝ }
 {
@@ -77,6 +78,7 @@ pub fn drain_formed(network: Network, budget: u16) -> Drained
     draining::run(network, budget)
 }
 
+// A drain of any network.
 pub fn drain(network: Network, budget: u16) -> Drained
     ensures { λ r. ⌜ drained r ≡ drainOf network budget ⌝ }
 {

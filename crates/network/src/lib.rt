@@ -31,7 +31,7 @@ const VACANT_NODE: Node = Node {
     key: 0,
     left: Link::Unlinked,
     right: Link::Unlinked,
-    lseq: 0,
+    lseq: sequence::FIRST,
     rseq: Seq::Unset,
 };
 

@@ -1,7 +1,6 @@
 -- What an effect says fixes the whole answer of a step: two answers that say the same are the same. So a contract that gives a step's
 -- effect leaves nothing of the answer open. Assumes nothing.
 use mathlib.Core.Path.{_≡_, refl, ap}
-use mathlib.Core.List.{[]}
 use Prim.Native.Nat.{ℕ}
 use native.Mathlib.Omega.{arith}
 use Rattle.refusal.proofs.Laws.{code-injective}

@@ -1,7 +1,7 @@
 -- The invariant holds after the delivery of a request that is denied, and of any message to a node that is out: no node changes, and of
 -- what waited nothing goes that the invariant speaks of. Assumes nothing.
 use mathlib.Core.Path.{_≡_, refl, sym, ap, _∙_}
-use mathlib.Core.Logic.{_⊎_, ⊎-elim, _≢_}
+use mathlib.Core.Logic.{⊎-elim, _≢_}
 use mathlib.Core.Bool.{Bool, true, false}
 use mathlib.Core.List.{List, [], _∷_, _++_, Memᴰ·append-left as in-left}
 use Prim.Native.Nat.{ℕ}

@@ -1,7 +1,7 @@
 -- The invariant holds after a declaration, and after a join or a leave that posts a request: whoever was inserted still is, and the
 -- request says what its sender's links and numbers say. Assumes nothing.
 use mathlib.Core.Path.{_≡_, refl, sym, ap, _∙_}
-use mathlib.Core.Logic.{_⊎_, ⊎-elim, _≢_}
+use mathlib.Core.Logic.{⊎-elim, _≢_}
 use mathlib.Core.Bool.{Bool, true, false}
 use mathlib.Core.List.{List, [], _∷_, _++_, Memᴰ·append-left as in-left}
 use Prim.Native.Nat.{ℕ}

@@ -1,6 +1,6 @@
-// What a network is asked without being changed: who is inserted, and which node owns a serial. Each question is handed any network; it
-// tests it first, and refuses 6 there. Each contract is an equation with the rules of the crate `protocol` on the lists that the network's
-// arrays hold.
+// What a network is asked without being changed: who is inserted, and which node owns a serial. `inserted` and `owner` are handed any network:
+// each tests it first, and refuses 6 there. `owner_formed` makes no such test, for who knows that the network is well formed. Each contract is
+// an equation with the rules of the crate `protocol` on the lists that the network's arrays hold.
 ghost use mathlib.Core.Path.{_≡_};
 ghost use mathlib.Core.Bool.{true};
 ghost use Rattle.network.specs.Arrays.{wellFormed};

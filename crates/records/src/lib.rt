@@ -1,6 +1,6 @@
 // What a record of a script does to a network: each kind of record by the call, the question or the drain that it asks for. Each answer is
-// taken apart, and a refusal leaves the record at once, with nothing posted. `specs/` says it over lists, with the rules of the crate
-// `protocol`.
+// taken apart, and a refusal leaves the record at once, with nothing posted. `perform` is handed any network and tests it; `perform_formed` makes
+// no such test, for who knows that the network is well formed. `specs/` says it over lists, with the rules of the crate `protocol`.
 ghost use mathlib.Core.Path.{_≡_};
 ghost use mathlib.Core.Bool.{true};
 ghost use Prim.Native.Nat.{_+_, _-_};

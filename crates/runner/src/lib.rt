@@ -1,4 +1,5 @@
-// A script from its bytes to its printout: the records one after the other from the empty network, a line for each. The printout grows in a
+// A script from its bytes to its printout: the records one after the other from the empty network, which is kept in a local and changed in place, a
+// line for each. `step` and `run` have a reference to it, and are walked by hand; `turn` is the same step by value. The printout grows in a
 // buffer that no script fills: a record has three bytes at least, and its line has forty at most.
 ghost use Prim.Native.Nat.{_+_, _≤_, _<_};
 ghost use Rattle.io.specs.Counts.{Counts};

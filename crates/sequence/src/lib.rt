@@ -2,10 +2,13 @@
 ghost use mathlib.Core.Path.{_≡_};
 ghost use Rattle.sequence.specs.Sequence.{firstSeq, newer, hasNext, cappedNext};
 
+// The first number, for constants: a constant's value can call no function.
+pub const FIRST: u16 = 0;
+
 pub fn first() -> u16
     ensures { λ r. ⌜ r ≡ firstSeq ⌝ }
 {
-    0
+    FIRST
 }
 
 pub fn is_newer(n: u16, than: u16) -> bool

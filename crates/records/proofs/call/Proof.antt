@@ -1,6 +1,5 @@
 -- `records::call` meets its contract: the network as the call leaves it, and what is reported of the call. Assumes nothing.
 use mathlib.Core.Path.{ap, _∙_}
-use borrow.Author.Needs.{needs}
 use Rattle.calls.specs.Outcomes.{answered, called as calledSaid}
 use Rattle.network.proofs.Lengths.{lengths}
 use Rattle.records.specs.Works.{tally}

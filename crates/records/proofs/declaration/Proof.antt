@@ -1,8 +1,7 @@
 -- `records::declaration` meets its contract: a serial that was read is declared, and another gives its refusal. Assumes nothing.
-use mathlib.Core.Path.{_≡_, refl, ap}
+use mathlib.Core.Path.{refl}
 use borrow.Author.Needs.{needs}
 use Rattle.refusal.specs.Rules.{done, no}
-use Rattle.serial.specs.Serial.{coded}
 use Rattle.script.specs.Script.{declare}
 use Rattle.records.proofs.PerformLaws.{fields-clear, fields-refuse}
 use Rattle.records.proofs.declaration.Statement.{statement}

@@ -1,6 +1,5 @@
 -- `records::drain` meets its contract: the network as the drain leaves it, and what is reported of the drain. Assumes nothing.
 use mathlib.Core.Path.{_∙_}
-use borrow.Author.Needs.{needs}
 use Rattle.calls.specs.Outcomes.{drained as drainedSaid}
 use Rattle.network.proofs.Lengths.{lengths}
 use Rattle.records.proofs.PerformLaws.{drain-performed}

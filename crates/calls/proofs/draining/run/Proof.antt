@@ -68,7 +68,7 @@ settled r h =
     let j = chosen r in
     let n = turn j .loop .n in
     let u = turn j .loop .inv .3 h in
-    ⊎-elim
+    ⊎-elim {C = lowest (live n) ≡ some (j .if2 .place)}
     (λ w. w .1 .ensures .1 (u .well-formed) ∙ ap some (sym (w .2)))
     (λ w.
     let at-first = step r h ∙ ap (λ place. receiving (live n) (messageAt (live n) place)) (w .1) in

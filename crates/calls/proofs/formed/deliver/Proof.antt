@@ -10,7 +10,7 @@ use Rattle.node.specs.Actions.{effect}
 use Rattle.protocol.specs.declared.Call.the-variants.{Deliver}
 use Rattle.protocol.specs.Calls.{messageAt, receiving}
 use Rattle.network.specs.Arrays.{vacantNode, live, wellFormed}
-use Rattle.network.proofs.Lengths.{lengths}
+use Rattle.network.proofs.Lengths.{Lengths, lengths}
 use Rattle.network.proofs.Places.{zeroMessage}
 use Rattle.calls.proofs.CallLaws.{few-nodes, addressee-read, received-here, no-message, deliver-says-here, room-cleared, refuses-by, delivered-by}
 use Rattle.calls.proofs.formed.deliver.Statement.{statement}
@@ -37,7 +37,7 @@ returns-2 c h =
     let waiting = c .before .before .before in
     let start = waiting .before in
     let n = start .args .t1 in
-    let l = lengths _ _ (start .good .0) in
+    let l : Lengths n = lengths _ _ (start .good .0) in
     absurd (omega (arith, few-nodes n l h, addressee-read n l h (start .args .place) zeroMessage (waiting .if1 .left), c .before .if2 .taken))
 
 commit-delivery-requires : tie.Need-commit-delivery-requires

@@ -6,7 +6,7 @@ use borrow.Author.Needs.{needs}
 use Rattle.sequence.specs.Sequence.{firstSeq}
 use Rattle.node.specs.Actions.{effect}
 use Rattle.network.specs.Arrays.{vacantNode}
-use Rattle.network.proofs.Lengths.{lengths}
+use Rattle.network.proofs.Lengths.{Lengths, lengths}
 use Rattle.network.proofs.Places.{zeroMessage}
 use Rattle.calls.proofs.CallLaws.{few-nodes, addressee-read, received-here, delivers-here}
 use Rattle.calls.proofs.formed.delivers.Statement.{statement}
@@ -16,7 +16,7 @@ returns : tie.Need-returns
 returns c h =
     let start = c .before .before in
     let n = start .args .t1 in
-    let l = lengths _ _ (start .good .0) in
+    let l : Lengths n = lengths _ _ (start .good .0) in
     absurd (omega (arith, few-nodes n l h, addressee-read n l h (start .args .place) zeroMessage (start .pre .0), c .if1 .taken))
 
 returns-2 : tie.Need-returns-2
