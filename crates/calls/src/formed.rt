@@ -17,7 +17,7 @@ ghost use Rattle.protocol.specs.Calls.{stepped, applyOf as applyToLists};
 ghost use Rattle.protocol.specs.History.{accepted};
 ghost use Rattle.network.specs.Arrays.{vacantNode, live, wellFormed};
 ghost use Rattle.calls.specs.Outcomes.{answered, called, refused, applyOf};
-ghost use Rattle.calls.specs.Changes.{committed, closed, declareTests, createTests, afterStep, roomRules};
+ghost use Rattle.calls.specs.Changes.{committed, declareTests, createTests, afterStep, roomRules};
 use crate::Answer;
 use crate::Called;
 use crate::store;
@@ -64,20 +64,6 @@ fn commit(network: Network, number: u8, step: Step) -> Called
     let verdict = step.verdict;
     Called {
         network: store::stepped(network, number, node, posts),
-        answer: answer_of(verdict),
-    }
-}
-
-// The same of a step on the message at a place.
-fn commit_delivery(network: Network, place: u8, number: u8, step: Step) -> Called
-    requires { ⌜ (place < network .waiting) × (network .waiting ≤ 64) × (number < 32) × (network .waiting - 1 + length (listed (step .posts)) ≤ 64) ⌝ }
-    ensures { λ r. ⌜ called r ≡ committed (closed network place) number (effect step) ⌝ }
-{
-    let node = step.node;
-    let posts = step.posts;
-    let verdict = step.verdict;
-    Called {
-        network: store::delivered(network, place, number, node, posts),
         answer: answer_of(verdict),
     }
 }
@@ -333,9 +319,14 @@ pub(crate) fn deliver(network: Network, place: u8) -> Called
     }
     let node = network.nodes[to as usize];
     let step = node.receive(to, message);
+    let after = step.node;
     let posts = step.posts;
+    let verdict = step.verdict;
     match check_room(network.waiting - 1, posts) {
         Check::Refuse(refusal) => refuse(network, refusal),
-        Check::Clear => commit_delivery(network, place, to, step),
+        Check::Clear => Called {
+            network: store::delivered(network, place, to, after, posts),
+            answer: answer_of(verdict),
+        },
     }
 }

@@ -105,8 +105,7 @@ pub(crate) fn delivered(
     let end = last as usize;
     let messages = n.messages;
     let queue = post(close(messages, end, place as usize), end, posts);
-    let at = number as usize;
-    n.nodes[at] = node;
+    n.nodes[number as usize] = node;
     n.messages = queue;
     n.waiting = last + length_of(posts);
     n

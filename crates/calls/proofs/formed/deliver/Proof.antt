@@ -16,16 +16,20 @@ use Rattle.calls.proofs.CallLaws.{few-nodes, addressee-read, received-h
 use Rattle.calls.proofs.formed.deliver.Statement.{statement}
 use Rattle.calls.proofs.formed.deliver.Tie as tie
 
--- where the place has been read
+-- the node has made its step
+abbrev acted : tie.After-check-room → tie.After-receive
+acted k = k .before .before
+
+-- the message waits
 abbrev waits : tie.After-check-room → tie.Else1
-waits k = k .before .before .before .before .before
+waits k = acted k .before .before .before .before
 
 -- the step is that of the list's node on the list's message
-step : (k : tie.After-check-room) → let args = waits k .before .args in wellFormed (args .t1) ≡ true → effect (k .before .receive .result) ≡ receiving (live (args .t1)) (messageAt (live (args .t1)) (args .place))
+step : (k : tie.After-check-room) → let args = waits k .before .args in wellFormed (args .t1) ≡ true → effect (acted k .receive .result) ≡ receiving (live (args .t1)) (messageAt (live (args .t1)) (args .place))
 unfolding firstSeq
 step k h =
     let start = waits k .before in
-    k .before .receive .ensures ∙ received-here (start .args .t1) (lengths _ _ (start .good .0)) h (start .args .place) zeroMessage vacantNode (waits k .if1 .left)
+    acted k .receive .ensures ∙ received-here (start .args .t1) (lengths _ _ (start .good .0)) h (start .args .place) zeroMessage vacantNode (waits k .if1 .left)
 
 returns : tie.Need-returns
 returns c h =
@@ -40,12 +44,12 @@ returns-2 c h =
     let l : Lengths n = lengths _ _ (start .good .0) in
     absurd (omega (arith, few-nodes n l h, addressee-read n l h (start .args .place) zeroMessage (waiting .if1 .left), c .before .if2 .taken))
 
-commit-delivery-requires : tie.Need-commit-delivery-requires
-commit-delivery-requires c κs =
+delivered-requires : tie.Need-delivered-requires
+delivered-requires c κs =
     let k = c .before .before in
     let start = waits k .before in
-    let room = room-cleared (start .args .t1 .waiting - 1) (effect (k .before .receive .result) .posts) (k .check-room .ensures) (c .enum-told .given .1) in
-    (waits k .if1 .left, start .pre .1, omega (arith, k .before .before .before .if2 .left), room)
+    let room = room-cleared (start .args .t1 .waiting - 1) (effect (acted k .receive .result) .posts) (k .check-room .ensures) (c .enum-told .given .1) in
+    (waits k .if1 .left, start .pre .1, omega (arith, acted k .before .before .if2 .left), room)
 
 returns-3 : tie.Need-returns-3
 returns-3 c h =
@@ -53,15 +57,16 @@ returns-3 c h =
     let start = waits k .before in
     let n = start .args .t1 in
     let l = lengths _ _ (start .good .0) in
-    let says = deliver-says-here n l h (start .args .place) (effect (k .before .receive .result)) (waits k .if1 .left) (step k h) in
+    let says = deliver-says-here n l h (start .args .place) (effect (acted k .receive .result)) (waits k .if1 .left) (step k h) in
     c .refuse3 .ensures ∙ refuses-by n l h (Deliver (start .args .place)) (k .check-room .ensures ∙ says) (c .before .before .refusal .given .1)
 
 returns-4 : tie.Need-returns-4
 returns-4 c h =
-    let k = c .before .before .before in
+    let k = c .before .before .before .before in
     let start = waits k .before in
-    c .commit-delivery .ensures
-    ∙ delivered-by (start .args .t1) (lengths _ _ (start .good .0)) h (start .args .place) zeroMessage (effect (k .before .receive .result)) (waits k .if1 .left) (step k h) (k .check-room .ensures) (c .before .enum-told .given .1)
+    (λ i. record { network = c .before .delivered .ensures i; said = c .answer-of .ensures i })
+    ∙ delivered-by (start .args .t1) (lengths _ _ (start .good .0)) h (start .args .place) zeroMessage (effect (acted k .receive .result)) (waits k .if1 .left) (step k h) (k .check-room .ensures)
+    (c .before .before .enum-told .given .1)
 
 pub deliver-spec : {M : Type 1} → statement M
 deliver-spec =
@@ -82,6 +87,7 @@ deliver-spec =
     (λ c. search needs)
     (λ c κs. tt)
     (λ c. search needs)
-    commit-delivery-requires
+    delivered-requires
+    (λ c κs. tt)
     returns-3
     returns-4)
