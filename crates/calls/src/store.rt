@@ -9,7 +9,7 @@ ghost use Rattle.protocol.specs.Calls.{without};
 ghost use Rattle.network.specs.Arrays.{vacantMessage};
 ghost use Rattle.calls.specs.Changes.{placed, added, closed, queued, allPosted};
 use network::Network;
-use node::Kind;
+use network::VACANT_MESSAGE;
 use node::Message;
 use node::Node;
 use node::Posts;
@@ -37,11 +37,7 @@ pub(crate) fn close(messages: [Message; 64], last: usize, place: usize) -> [Mess
         queue[i] = message;
         i += 1;
     }
-    queue[last] = Message {
-        sender: 0,
-        to: 0,
-        kind: Kind::SetRNak,
-    };
+    queue[last] = VACANT_MESSAGE;
     queue
 }
 

@@ -37,7 +37,7 @@ const VACANT_NODE: Node = Node {
 
 const VACANT_NODES: [Node; 32] = [VACANT_NODE; 32];
 
-const VACANT_MESSAGE: Message = Message {
+pub const VACANT_MESSAGE: Message = Message {
     sender: 0,
     to: 0,
     kind: Kind::SetRNak,

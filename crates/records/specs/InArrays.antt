@@ -22,11 +22,8 @@ abbrev pub inArrays : Performance → Effect
 inArrays p = record { network = held (p .state); said = p .said; posted = p .posted }
 
 -- "6 a .. floor handed in is out of shape": the first refusal of every record
-abbrev pub guarded : Network → Performance → Effect
-guarded n p = cond (wellFormed n) (inArrays p) (turnedDown n 6)
-
 unfoldable pub performOf : Network → Entry → Effect
-performOf n e = guarded n (performOnLists (live n) e)
+performOf n e = cond (wellFormed n) (inArrays (performOnLists (live n) e)) (turnedDown n 6)
 
 -- what the code hands back says
 abbrev pub performed : Performed → Effect
