@@ -4,7 +4,7 @@ use mathlib.Core.Path.{_≡_, refl, sym, ap, _∙_}
 use mathlib.Core.Logic.{⊎-elim}
 use mathlib.Core.Bool.{Bool, true, false, not, _&&_, cond}
 use mathlib.Core.Option.{Option, none, some}
-use mathlib.Core.List.{List, _∷_}
+use mathlib.Core.List.{List, [], _∷_}
 use Prim.Native.Nat.{ℕ, _+_, _-_, _≤_, _<_}
 use native.Mathlib.Omega.{arith}
 use lib.ListN.{length, getD}
@@ -17,16 +17,18 @@ use Rattle.truth.proofs.TestLaws.{decided, is-true, below-agree}
 use Rattle.refusal.specs.declared.Refusal.{Refusal}
 use Rattle.refusal.specs.declared.Check.{Check}
 use Rattle.refusal.specs.declared.Check.the-variants.{Clear, Refuse}
-use Rattle.refusal.specs.Code.{code}
+use Rattle.refusal.specs.Code.{Reason, plain, reason}
 use Rattle.refusal.specs.Rules.{Coded, done, no, Rule, _when_, first, checked}
 use Rattle.refusal.proofs.Laws.{on-refuse, on-clear, cleared}
 use Rattle.serial.specs.Serial.{inRange}
 use Rattle.node.specs.declared.Node.{Node}
 use Rattle.node.specs.declared.Message.{Message}
-use Rattle.node.specs.Shape.{declaredOf, isOut, capacity}
+use Rattle.node.specs.Shape.{declaredOf, capacity}
+use Rattle.node.specs.Tests.{isOut}
 use Rattle.node.specs.Actions.{Effect, joinOf, leaveOf, receiveOf}
 use Rattle.protocol.specs.declared.Call.{Call}
-use Rattle.protocol.specs.declared.Call.the-variants.{Declare, Create, Join, Leave, Deliver}
+use Rattle.protocol.specs.declared.Order.the-variants.{Declare, Create, Join, Leave}
+use Rattle.protocol.specs.declared.Call.the-variants.{Order, Deliver}
 use Rattle.protocol.specs.declared.Reply.the-variants.{Declared}
 use Rattle.protocol.specs.State.{queueLimit, declared, nodeAt, statusAt, keyAt, noticeWaits, wellFormed as listsAreWellFormed}
 use Rattle.protocol.specs.Calls.{Result, refused as listsRefused, commit, keyIsTaken, declareRules, allOut, createRules, peerAt, joinRules, leaveRules, messageAt, without, deliverRules, receiving, rulesOf, effectOf, applyOf as applyToLists}
@@ -37,11 +39,12 @@ use Rattle.protocol.proofs.Cases.{tested-below, declared-addressee, accepted-ca
 use Rattle.protocol.proofs.Refusals.{accepted-said}
 use Rattle.network.specs.declared.Network.{Network}
 use Rattle.network.specs.Arrays.{vacantNode, vacantMessage, live, wellFormed, held}
-use Rattle.calls.specs.Outcomes.{refused, inArrays, applyOf}
-use Rattle.calls.specs.Changes.{added, closed, committed, declareTests, createTests, afterStep, roomRules}
+use Rattle.calls.specs.Outcomes.{counted, refused, inArrays, applyOf}
+use Rattle.calls.specs.Changes.{added, closed, committed}
+use Rattle.calls.specs.Computed.{declareTests, createTests, afterStep, roomRules}
 use Rattle.network.proofs.Lengths.{Lengths}
 use Rattle.network.proofs.ArrayLaws.{formed, held-live}
-use Rattle.calls.proofs.RunLaws.{refused-same}
+use Rattle.calls.proofs.RunLaws.{refused-here}
 use Rattle.network.proofs.Places.{same-element}
 use Rattle.network.proofs.LiveLaws.{nodes-length, messages-length, node-live}
 use Rattle.calls.proofs.Shift.{length-without}
@@ -63,7 +66,7 @@ pub declare-room : (n : Network) (key : ℕ) {k : Check} → checked k ≡ first
 declare-room n key says clear = let (_, (room, _)) = cleared (declareTests n key) (sym says ∙ ap checked clear) in tested-below (n .count) capacity room
 
 -- ---- one of three nodes that is not declared
-some-undeclared : (a b c : Bool) (rest : Option ℕ) → (a && (b && c)) ≡ false → cond (not a) (some 5) (cond (not b) (some 5) (cond (not c) (some 5) rest)) ≡ some 5
+some-undeclared : (a b c : Bool) (rest : Option Reason) → (a && (b && c)) ≡ false → cond (not a) (some (plain 5)) (cond (not b) (some (plain 5)) (cond (not c) (some (plain 5)) rest)) ≡ some (plain 5)
 some-undeclared false b c rest e = refl
 some-undeclared true false c rest e = refl
 some-undeclared true true false rest e = refl
@@ -114,8 +117,8 @@ module _ (n : Network) (l : Lengths n) (h : wellFormed n ≡ true) where
       ∙ ap (receiving (live n)) (sym (message-live place d waits))
 
   -- ---- what comes of a call
-  pub refuses : (call : Call) (number : ℕ) → listsRefused (live n) number ≡ applyToLists (live n) call → refused n number ≡ applyOf n call
-  refuses call number e = sym (refused-same n call number (l .nodes) (l .messages) h (sym e))
+  pub refuses : (call : Call) (number : Reason) → listsRefused (live n) number ≡ applyToLists (live n) call → refused n number ≡ applyOf n call
+  refuses call number e = sym (refused-here n l call number h (sym e))
 
   pub accepts : (call : Call) (r : Result) → r ≡ applyToLists (live n) call → inArrays r ≡ applyOf n call
   unfolding applyOf
@@ -136,18 +139,18 @@ module _ (n : Network) (l : Lengths n) (h : wellFormed n ≡ true) where
       ∙ committed-held (live n) (without place (live n .messages)) u e (omega (arith, nodes-length n l h)) (omega (arith, messages-length n l h, length-without place (live n .messages) there))
 
   -- ---- a check that says what the rules say settles the call
-  pub refuses-by : (call : Call) {k : Check} {r : Refusal} → checked k ≡ first (rulesOf (live n) call) → k ≡ Refuse r → refused n (code r) ≡ applyOf n call
+  pub refuses-by : (call : Call) {k : Check} {r : Refusal} → checked k ≡ first (rulesOf (live n) call) → k ≡ Refuse r → counted (refused n (reason r)) ≡ counted (applyOf n call)
   unfolding applyToLists
-  refuses-by call {r} says e = refuses call (code r) (on-refuse (rulesOf (live n) call) says (listsRefused (live n)) (effectOf (live n) call) e)
+  refuses-by call {r} says e = ap counted (refuses call (reason r) (on-refuse (rulesOf (live n) call) says (listsRefused (live n)) (effectOf (live n) call) e))
 
   pub accepts-by : (call : Call) {k : Check} → checked k ≡ first (rulesOf (live n) call) → k ≡ Clear → inArrays (effectOf (live n) call) ≡ applyOf n call
   unfolding applyToLists
   accepts-by call says e = accepts call (effectOf (live n) call) (on-clear (rulesOf (live n) call) says (listsRefused (live n)) (effectOf (live n) call) e)
 
   -- and so does a rule that refuses
-  pub refuses-first : (call : Call) (number : ℕ) → first (rulesOf (live n) call) ≡ some number → refused n number ≡ applyOf n call
+  pub refuses-first : (call : Call) (number : Reason) → first (rulesOf (live n) call) ≡ some number → counted (refused n number) ≡ counted (applyOf n call)
   unfolding applyToLists
-  refuses-first call number e = refuses call number (rw e)
+  refuses-first call number e = ap counted (refuses call number (rw e))
 
   -- ---- the tests of the arrays are those of the lists
   pub all-out-live : everyBelow (n .count) (λ u. isOut (getD (n .nodes) u vacantNode .status)) ≡ allOut (live n)
@@ -162,24 +165,24 @@ module _ (n : Network) (l : Lengths n) (h : wellFormed n ≡ true) where
       ∙ ap (λ k. everyBelow k (λ u. not (eqb (keyAt (live n) u) key))) (sym (nodes-length n l h)))
 
   -- ---- join, leave and deliver as the code comes to them
-  pub join-undeclared : (u p q : ℕ) → (ltb u (n .count) && (ltb p (n .count) && ltb q (n .count))) ≡ false → refused n 5 ≡ applyOf n (Join u p q)
+  pub join-undeclared : (u p q : ℕ) → (ltb u (n .count) && (ltb p (n .count) && ltb q (n .count))) ≡ false → counted (refused n (plain 5)) ≡ counted (applyOf n (Order (Join u p q)))
   join-undeclared u p q e =
-      refuses-first (Join u p q) 5
+      refuses-first (Order (Join u p q)) (plain 5)
       (rw lists-tested (some-undeclared (declared (live n) u) (declared (live n) p) (declared (live n) q) _ (rw (sym (nodes-length n l h)) at e)))
 
   unknown : (u : ℕ) → n .count ≤ u → declared (live n) u ≡ false
   unknown u k = le-ltb u (length (live n .nodes)) (omega (arith, nodes-length n l h))
 
-  pub create-undeclared : (u : ℕ) → n .count ≤ u → refused n 5 ≡ applyOf n (Create u)
-  create-undeclared u k = refuses-first (Create u) 5 (simp (lists-tested, unknown u k))
+  pub create-undeclared : (u : ℕ) → n .count ≤ u → counted (refused n (plain 5)) ≡ counted (applyOf n (Order (Create u)))
+  create-undeclared u k = refuses-first (Order (Create u)) (plain 5) (simp (lists-tested, unknown u k))
 
-  pub leave-undeclared : (u : ℕ) → n .count ≤ u → refused n 5 ≡ applyOf n (Leave u)
-  leave-undeclared u k = refuses-first (Leave u) 5 (simp (lists-tested, unknown u k))
+  pub leave-undeclared : (u : ℕ) → n .count ≤ u → counted (refused n (plain 5)) ≡ counted (applyOf n (Order (Leave u)))
+  leave-undeclared u k = refuses-first (Order (Leave u)) (plain 5) (simp (lists-tested, unknown u k))
 
-  pub no-message : (place : ℕ) → n .waiting ≤ place → refused n 29 ≡ applyOf n (Deliver place)
+  pub no-message : (place : ℕ) → n .waiting ≤ place → counted (refused n (plain 29)) ≡ counted (applyOf n (Deliver place))
   no-message place k =
       let absent : ltb place (length (live n .messages)) ≡ false = le-ltb place (length (live n .messages)) (omega (arith, messages-length n l h)) in
-      refuses-first (Deliver place) 29 (simp (lists-tested, absent, and-false))
+      refuses-first (Deliver place) (plain 29) (simp (lists-tested, absent, and-false))
 
   pub join-says-here : (u p q : ℕ) (e : Effect) → u < n .count → p < n .count → q < n .count
       → e ≡ joinOf u (nodeAt (live n) u) (peerAt (live n) p) (peerAt (live n) q)
@@ -213,13 +216,13 @@ module _ (n : Network) (l : Lengths n) (h : wellFormed n ≡ true) where
       (λ t.
       let clear : first (deliverRules (live n) place) ≡ none = says ∙ rw t in
       t ∙ sym (rw clear (is-true _ (accepted-said (accepted-case (live n) (Deliver place) clear)))))
-      (λ f. let barred : first (deliverRules (live n) place) ≡ some 28 = says ∙ rw f in f ∙ rw barred)
+      (λ f. let barred : first (deliverRules (live n) place) ≡ some (plain 28) = says ∙ rw f in f ∙ rw barred)
       (decided (leb (n .waiting - 1 + length (e .posts)) queueLimit))
 
   -- ---- a step that no rule refuses, written into the arrays
   pub committed-by : (call : Call) (u : ℕ) (e : Effect) {k : Check} → u < n .count → n .waiting + length (e .posts) ≤ queueLimit
-      → effectOf (live n) call ≡ commit (live n) u (live n .messages) e → checked k ≡ first (rulesOf (live n) call) → k ≡ Clear → committed n u e ≡ applyOf n call
-  committed-by call u e known room step says clear = commits u e known room ∙ ap inArrays (sym step) ∙ accepts-by call says clear
+      → effectOf (live n) call ≡ commit (live n) u (live n .messages) e → checked k ≡ first (rulesOf (live n) call) → k ≡ Clear → counted (committed n u e) ≡ counted (applyOf n call)
+  committed-by call u e known room step says clear = ap counted (commits u e known room ∙ ap inArrays (sym step) ∙ accepts-by call says clear)
 
   pub delivered-by : (place : ℕ) (d : Message) (e : Effect) {k : Check} → place < n .waiting → e ≡ receiving (live n) (messageAt (live n) place)
       → checked k ≡ first (roomRules (n .waiting - 1) (e .posts)) → k ≡ Clear → committed (closed n place) (getD (n .messages) place d .to) e ≡ applyOf n (Deliver place)
@@ -232,15 +235,15 @@ module _ (n : Network) (l : Lengths n) (h : wellFormed n ≡ true) where
   -- ---- declare and create
   pub declare-says : (key : ℕ) → first (declareTests n key) ≡ first (declareRules (live n) key)
   declare-says key =
-      rw lists-tested (λ i. cond (not (inRange key)) (some 4) (cond (not (ltb (sym (nodes-length n l h) i) capacity)) (some 20) (cond (key-taken-live key i) (some 21) none)))
+      rw lists-tested (λ i. cond (not (inRange key)) (some (plain 4)) (cond (not (ltb (sym (nodes-length n l h) i) capacity)) (some (plain 20)) (cond (key-taken-live key i) (some (plain 21)) none)))
 
   pub create-says : (u : ℕ) → u < n .count → first (createTests n u) ≡ first (createRules (live n) u)
-  create-says u known = rw (lists-tested, declared-live u known) (ap (λ out. cond (not out) (some 22) (cond (noticeWaits (live n) u) (some 25) none)) all-out-live)
+  create-says u known = rw (lists-tested, declared-live u known) (ap (λ out. cond (not out) (some (plain 22)) (cond (noticeWaits (live n) u) (some (plain 25)) none)) all-out-live)
 
   pub added-by : (key : ℕ) {k : Check} → checked k ≡ first (declareTests n key) → k ≡ Clear
-      → record { network = added n (declaredOf key); said = done (Declared (n .count) key) } ≡ applyOf n (Declare key)
+      → record { network = added n (declaredOf key); posted = 0; said = done (Declared (n .count) key) } ≡ counted (applyOf n (Order (Declare key)))
   added-by key says clear =
       let room : length (live n .nodes) < capacity = omega (arith, nodes-length n l h, declare-room n key says clear) in
       let network = ap (λ m. added m (declaredOf key)) (sym same) ∙ added-held (live n) (declaredOf key) room in
       let number = sym (nodes-length n l h) in
-      (λ i. record { network = network i; said = done (Declared (number i) key) }) ∙ accepts-by (Declare key) (says ∙ declare-says key) clear
+      ap counted ((λ i. record { network = network i; posts = []; said = done (Declared (number i) key) }) ∙ accepts-by (Order (Declare key)) (says ∙ declare-says key) clear)

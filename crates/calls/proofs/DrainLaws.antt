@@ -16,15 +16,17 @@ use Rattle.node.specs.Shape.{capacity}
 use Rattle.node.specs.Actions.{Effect}
 use Rattle.protocol.specs.declared.Call.the-variants.{Deliver}
 use Rattle.protocol.specs.State.{State, queueLimit, wellFormed as listsAreWellFormed}
-use Rattle.protocol.specs.Calls.{messageAt, receiving}
-use Rattle.protocol.specs.Drain.{lowest, afterDelivery, places, deliverAll, drainOf as drainLists}
+use Rattle.protocol.specs.declared.Reply.the-variants.{Ran}
+use Rattle.protocol.specs.Calls.{messageAt, receiving, applyOf as applyToLists}
+use Rattle.protocol.specs.Drain.{lowest, afterDelivery, places, deliverAll, postsOfAll, drainOf as drainLists}
 use Rattle.protocol.proofs.Facts.{formed as lists-formed}
 use Rattle.protocol.proofs.Lively.{steady}
 use Rattle.protocol.proofs.Drains.{lowest-at, places-next}
 use Rattle.network.specs.declared.Network.{Network}
 use Rattle.network.specs.Arrays.{vacantNode, vacantMessage, live, wellFormed, filled, held}
-use Rattle.calls.specs.Outcomes.{applyOf, drainOf}
-use Rattle.calls.specs.Changes.{closed, committed, roomRules}
+use Rattle.calls.specs.Outcomes.{counted, applyOf, drainOf}
+use Rattle.calls.specs.Changes.{closed, committed}
+use Rattle.calls.specs.Computed.{roomRules}
 use Rattle.network.proofs.Lengths.{Lengths}
 use Rattle.network.proofs.ArrayLaws.{formed, live-held, held-well-formed}
 use Rattle.network.proofs.LiveLaws.{messages-length}
@@ -56,25 +58,29 @@ delivered-there n l h place d e waits room step =
     delivered-by n l h place d e waits step clear refl
 
 -- ---- a drain that has made some of its deliveries
-pub record Underway (start : Network) (budget : ℕ) (n : Network) (made : ℕ) : Type 0 where
+pub record Underway (start : Network) (budget : ℕ) (n : Network) (made posted : ℕ) : Type 0 where
   pub arrays : Lengths n
   pub well-formed : wellFormed n ≡ true
   pub spent : made ≤ budget
   pub ends : deliverAll (live n) (places (budget - made) (live n)) ≡ deliverAll (live start) (places budget (live start))
   pub counts : made + length (places (budget - made) (live n)) ≡ length (places budget (live start))
+  pub posts : posted + length (postsOfAll (live n) (places (budget - made) (live n))) ≡ length (postsOfAll (live start) (places budget (live start)))
 
-pub begins : (n : Network) (budget : ℕ) → Lengths n → wellFormed n ≡ true → Underway n budget n 0
+pub begins : (n : Network) (budget : ℕ) → Lengths n → wellFormed n ≡ true → Underway n budget n 0 0
 begins n budget l h =
     let all : budget - 0 ≡ budget = omega arith in
-    record { arrays = l; well-formed = h; spent = omega arith; ends = rw all; counts = rw all (omega arith) }
+    record { arrays = l; well-formed = h; spent = omega arith; ends = rw all; counts = rw all (omega arith); posts = rw all (omega arith) }
 
-module _ {start : Network} {budget : ℕ} {n : Network} {made : ℕ} (u : Underway start budget n made) where
+module _ {start : Network} {budget : ℕ} {n : Network} {made posted : ℕ} (u : Underway start budget n made posted) where
   -- one delivery more
-  pub goes-on : (place : ℕ) (m : Network) → made < budget → lowest (live n) ≡ some place → m ≡ applyOf n (Deliver place) .network → Underway start budget m (made + 1)
+  pub goes-on : (place : ℕ) (m : Network) (count : ℕ) → made < budget → lowest (live n) ≡ some place → m ≡ applyOf n (Deliver place) .network → count ≡ length (applyOf n (Deliver place) .posts)
+      → Underway start budget m (made + 1) (posted + count)
   unfolding applyOf
-  goes-on place m left at e =
+  goes-on place m count left at e more =
       let next = afterDelivery (live n) place in
       let kept : listsAreWellFormed next ≡ true = is-true _ (steady (live n) (holds (formed n (u .well-formed) .lists)) .kept (Deliver place)) in
+      let sent = applyToLists (live n) (Deliver place) .posts in
+      let behind : count ≡ length sent = more ∙ rw (u .well-formed) in
       let arrays : m ≡ held next = e ∙ rw (u .well-formed) in
       let lists : live m ≡ next = ap live arrays ∙ live-held next in
       let one : budget - made ≡ suc (budget - (made + 1)) = omega arith in
@@ -85,11 +91,12 @@ module _ {start : Network} {budget : ℕ} {n : Network} {made : ℕ} (u : Underw
         spent = omega arith;
         ends = rw lists (ap (deliverAll (live n)) (sym first) ∙ u .ends);
         counts = rw lists (omega (arith, u .counts, ap length first));
+        posts = rw lists (omega (arith, u .posts, ap (λ l. length (postsOfAll (live n) l)) first, behind, length-append sent (postsOfAll next (places (budget - (made + 1)) next))));
       }
 
   -- nothing more to be delivered
   pub finished : wellFormed start ≡ true → places (budget - made) (live n) ≡ []
-      → record { network = n; said = done (record { made = made; left = n .waiting }) } ≡ drainOf start budget
+      → record { network = n; posted = posted; said = done (Ran made (n .waiting)) } ≡ counted (drainOf start budget)
   unfolding drainOf drainLists
   finished h none-left =
       let end : live n ≡ deliverAll (live start) (places budget (live start)) = ap (deliverAll (live n)) (sym none-left) ∙ u .ends in
@@ -97,4 +104,5 @@ module _ {start : Network} {budget : ℕ} {n : Network} {made : ℕ} (u : Underw
       let network : n ≡ held (deliverAll (live start) (places budget (live start))) = sym (same n (u .arrays) (u .well-formed)) ∙ ap held end in
       let left : n .waiting ≡ length (deliverAll (live start) (places budget (live start)) .messages) =
       sym (messages-length n (u .arrays) (u .well-formed)) ∙ ap (λ (s : State). length (s .messages)) end in
-      rw (h, formed start h .lists) (λ i. record { network = network i; said = done (record { made = all i; left = left i }) })
+      let sent : posted ≡ length (postsOfAll (live start) (places budget (live start))) = omega (arith, u .posts, ap (λ l. length (postsOfAll (live n) l)) none-left) in
+      rw (h, formed start h .lists) (λ i. record { network = network i; posted = sent i; said = done (Ran (all i) (left i)) })

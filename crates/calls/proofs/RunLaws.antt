@@ -1,42 +1,67 @@
 -- Calls on the arrays follow the calls on the lists step by step, from the empty network on; a network that is not well formed comes back with
 -- 6, and a refused call hands back the very network. A drain leads where its deliveries lead as calls, so what holds after every list of calls
 -- holds after a drain. Assumes nothing.
-use mathlib.Core.Path.{_≡_, refl, sym}
+use mathlib.Core.Path.{_≡_, refl, sym, ap, _∙_}
+use mathlib.Core.Logic.{⊎-elim}
 use mathlib.Core.Bool.{true, false}
 use mathlib.Core.List.{List, [], _∷_, _++_, map}
 use Prim.Native.Nat.{ℕ}
 use lib.ListN.{length}
-use Rattle.truth.proofs.TestLaws.{holds, is-true}
-use Rattle.refusal.specs.Rules.{done}
-use Rattle.node.specs.Shape.{capacity}
+use Rattle.truth.proofs.TestLaws.{holds, is-true, decided}
+use Rattle.refusal.specs.Code.{Reason, plain}
+use Rattle.refusal.specs.Rules.{Coded, done, no}
 use Rattle.protocol.specs.declared.Call.{Call}
 use Rattle.protocol.specs.declared.Call.the-variants.{Deliver}
-use Rattle.protocol.specs.State.{State, queueLimit, wellFormed as listsAreWellFormed}
+use Rattle.protocol.specs.declared.Reply.{Reply}
+use Rattle.protocol.specs.declared.Reply.the-variants.{Ran}
+use Rattle.protocol.specs.State.{State, wellFormed as listsAreWellFormed}
 use Rattle.protocol.specs.Calls.{refused as listsRefused, applyOf as applyToLists}
 use Rattle.protocol.specs.History.{History, start, advanced, run as runLists, history}
 use Rattle.protocol.specs.Drain.{places, drained as drainedLists, drainOf as drainLists}
 use Rattle.protocol.proofs.Lively.{steady}
 use Rattle.protocol.proofs.Drains.{drain-is-calls}
 use Rattle.protocol.proofs.Theorem.{ring}
+use Rattle.protocol.proofs.Posted.{refused-same as lists-refused-same, drain-refused-same as drain-lists-refused-same}
 use Rattle.network.specs.declared.Network.{Network}
 use Rattle.network.specs.Arrays.{live, wellFormed, held, empty}
+use Rattle.network.proofs.Lengths.{Lengths}
 use Rattle.network.proofs.ArrayLaws.{live-held, held-well-formed, held-live}
-use Rattle.calls.specs.Outcomes.{refused, inArrays, drainInArrays, applyOf, drainOf, run}
+use Rattle.calls.specs.Outcomes.{refused, inArrays, applyOf, drainOf, run}
 
 -- ---- 6: a network that is not well formed comes back as it is
-pub malformed : (n : Network) (call : Call) → wellFormed n ≡ false → applyOf n call ≡ refused n 6
+pub malformed : (n : Network) (call : Call) → wellFormed n ≡ false → applyOf n call ≡ refused n (plain 6)
 unfolding applyOf
 malformed n call e = rw e
 
-pub malformed-drain : (n : Network) (budget : ℕ) → wellFormed n ≡ false → drainOf n budget ≡ refused n 6
+pub malformed-drain : (n : Network) (budget : ℕ) → wellFormed n ≡ false → drainOf n budget ≡ refused n (plain 6)
 unfolding drainOf
 malformed-drain n budget e = rw e
 
--- ---- so a refused call hands back the same network
-pub refused-same : (n : Network) (call : Call) (number : ℕ) → length (n .nodes) ≡ capacity → length (n .messages) ≡ queueLimit → wellFormed n ≡ true
-    → applyToLists (live n) call ≡ listsRefused (live n) number → applyOf n call ≡ refused n number
+-- ---- a refused call hands back the very network, and posts nothing; so does a refused drain
+pub refused-here : (n : Network) → Lengths n → (call : Call) (r : Reason) → wellFormed n ≡ true → applyToLists (live n) call ≡ listsRefused (live n) r
+    → applyOf n call ≡ refused n r
 unfolding applyOf
-refused-same n call number nodes messages h e = rw (h, e, held-live n nodes messages h)
+refused-here n l call r h e = rw (h, e, held-live n (l .nodes) (l .messages) h)
+
+pub refused-same : (n : Network) → Lengths n → (call : Call) (r : Reason) → applyOf n call .said ≡ no r → applyOf n call ≡ refused n r
+unfolding applyOf
+refused-same n l call r e = ⊎-elim (λ t. refused-here n l call r t (lists-refused-same (live n) call r (said t))) (λ f. malformed n call f ∙ ap (refused n) (six f)) (decided (wellFormed n))
+  where
+    said : wellFormed n ≡ true → applyToLists (live n) call .said ≡ no r
+    said t = rw t at e
+
+    six : wellFormed n ≡ false → plain 6 ≡ r
+    six f = let given : _≡_ {A = Coded Reply} (no (plain 6)) (no r) = rw (malformed n call f) at e in cc
+
+pub drain-refused-same : (n : Network) → Lengths n → (budget : ℕ) (r : Reason) → drainOf n budget .said ≡ no r → drainOf n budget ≡ refused n r
+unfolding drainOf
+drain-refused-same n l budget r e = ⊎-elim well (λ f. malformed-drain n budget f ∙ ap (refused n) (six f)) (decided (wellFormed n))
+  where
+    well : wellFormed n ≡ true → drainOf n budget ≡ refused n r
+    well t = let said : drainLists (live n) budget .said ≡ no r = rw t at e in rw (t, drain-lists-refused-same (live n) budget r said, held-live n (l .nodes) (l .messages) t)
+
+    six : wellFormed n ≡ false → plain 6 ≡ r
+    six f = let given : _≡_ {A = Coded Reply} (no (plain 6)) (no r) = rw (malformed-drain n budget f) at e in cc
 
 -- ---- calls on the arrays follow the calls on the lists
 pub apply-held : (s : State) (call : Call) → listsAreWellFormed s ≡ true → applyOf (held s) call ≡ inArrays (applyToLists s call)
@@ -67,13 +92,13 @@ pub run-says : (calls : List Call) (call : Call) → applyOf (run empty calls) c
 run-says calls call = rw (run-empty calls, apply-held (history calls .state) call (lists-stay-well-formed calls))
 
 -- ---- a drain counts as the deliveries it makes
-drain-held : (s : State) (budget : ℕ) → listsAreWellFormed s ≡ true → drainOf (held s) budget ≡ drainInArrays (drainedLists s (places budget s))
+drain-held : (s : State) (budget : ℕ) → listsAreWellFormed s ≡ true → drainOf (held s) budget ≡ inArrays (drainedLists s (places budget s))
 unfolding drainOf drainLists
 drain-held s budget h = rw (held-well-formed s h, live-held s, h)
 
 module _ (calls : List Call) (budget : ℕ) where
   -- the network that the calls make, drained
-  run-drained : drainOf (run empty calls) budget ≡ drainInArrays (drainedLists (history calls .state) (places budget (history calls .state)))
+  run-drained : drainOf (run empty calls) budget ≡ inArrays (drainedLists (history calls .state) (places budget (history calls .state)))
   run-drained = rw (run-empty calls) (drain-held (history calls .state) budget (lists-stay-well-formed calls))
 
   -- it is the one that the calls make with the drain's deliveries at their end
@@ -82,8 +107,5 @@ module _ (calls : List Call) (budget : ℕ) where
 
   -- and the answer is how many these are, and how many messages wait there
   pub run-drain-says : drainOf (run empty calls) budget .said
-      ≡ done (record {
-        made = length (places budget (history calls .state));
-        left = length (history (calls ++ map Deliver (places budget (history calls .state))) .state .messages);
-      })
+      ≡ done (Ran (length (places budget (history calls .state))) (length (history (calls ++ map Deliver (places budget (history calls .state))) .state .messages)))
   run-drain-says = rw (run-drained, drain-is-calls calls budget)

@@ -12,6 +12,7 @@ use lib.Dec.{leb, ltb}
 use borrow.Author.Tests.{le-leb, lt-ltb}
 use Rattle.truth.proofs.Laws.{true-is-not-false, and-false, by-test}
 use Rattle.truth.proofs.TestLaws.{decided}
+use Rattle.refusal.specs.Code.{Reason}
 use Rattle.refusal.specs.Rules.{done, Rule, _when_, first, settled, ruled}
 use Rattle.refusal.proofs.Laws.{first-append, cleared}
 use Rattle.sequence.specs.Sequence.{newer, nextSeq}
@@ -26,15 +27,15 @@ use Rattle.node.specs.declared.Posts.{Posts}
 use Rattle.node.specs.declared.Posts.the-variants.{Nothing, One, Two}
 use Rattle.node.specs.declared.Outcome.{Outcome}
 use Rattle.node.specs.declared.Outcome.the-variants.{Waiting, LeftAlone}
-use Rattle.node.specs.Shape.{isOut, isIn}
-use Rattle.node.specs.Actions.{Effect, posted, refused, quiet, posting, withStatus, seqOf, createRules, creating, createOf, joinRules, asking, joinOf, alone, leaveRules, leaveRequest, leaving, leaveOf, onSetRAck, onSetRNak, onKind, actOf}
+use Rattle.node.specs.Tests.{isOut, isIn, seqOf}
+use Rattle.node.specs.Actions.{Effect, posted, refused, quiet, posting, withStatus, createRules, creating, createOf, joinRules, asking, joinOf, alone, leaveRules, leaveRequest, leaving, leaveOf, onSetRAck, onSetRNak, onKind, actOf}
 use Rattle.node.proofs.ActionLaws.{granted, join-accepted, leave-alone-accepted, leave-accepted}
 use Rattle.protocol.specs.State.{State, queueLimit, declared, nodeAt, noticeWaits, wellFormed}
 use Rattle.protocol.specs.Calls.{isFull, peerAt, joinRules as joinCallRules, leaveRules as leaveCallRules, messageAt, wouldGrant, isGrantable, deliverRules, receiving}
 use Rattle.protocol.proofs.Facts.{WellFormed, tested}
 use Rattle.protocol.proofs.Waiting.{taken}
 use Rattle.protocol.proofs.Cases.{received}
-use Rattle.calls.specs.Changes.{afterStep, roomRules}
+use Rattle.calls.specs.Computed.{afterStep, roomRules}
 
 -- ---- how much a step posts
 not-out : (status : Status) → isIn status ≡ true → isOut status ≡ false
@@ -52,7 +53,7 @@ pub create-posts : (me : ℕ) (u : Node) → length (createOf me u .posts) ≡ 0
 unfolding createOf
 create-posts me u = go (first (createRules me u))
   where
-    go : (o : Option ℕ) → length (settled o (refused u) (creating me u) .posts) ≡ 0
+    go : (o : Option Reason) → length (settled o (refused u) (creating me u) .posts) ≡ 0
     go none = refl
     go (some n) = refl
 
@@ -76,11 +77,11 @@ full-by-one n = let e : n + 1 ≡ suc n = omega arith in rw e
 
 -- ---- the rules after a step's own
 -- rest is what paper 01 names, and what the code tests instead agrees with it where the step's own rules let it pass
-after-own : (rules rest : List Rule) (u : Node) (accepted : Effect) (o : Outcome) (tested : Option ℕ) → accepted .said ≡ done o
+after-own : (rules rest : List Rule) (u : Node) (accepted : Effect) (o : Outcome) (tested : Option Reason) → accepted .said ≡ done o
     → (first rules ≡ none → tested ≡ first rest) → afterStep (ruled rules (refused u) accepted .said) tested ≡ first (rules ++ rest)
 after-own rules rest u accepted o tested says agrees = go (first rules) refl ∙ sym (first-append rules rest)
   where
-    go : (f : Option ℕ) → first rules ≡ f → afterStep (settled f (refused u) accepted .said) tested ≡ settled f some (first rest)
+    go : (f : Option Reason) → first rules ≡ f → afterStep (settled f (refused u) accepted .said) tested ≡ settled f some (first rest)
     go none e = rw says (agrees e)
     go (some n) e = refl
 

@@ -99,4 +99,4 @@ pub committed-held : (s : State) (rest : List Message) (u : ℕ) (e : Effect) �
 committed-held s rest u e k room =
     let placed-there = placed-held (record { nodes = s .nodes; messages = rest }) u (e .node) k in
     let network = ap (λ n. allPosted n (e .posts)) placed-there ∙ all-posted-held (set (s .nodes) u (e .node)) rest (e .posts) room in
-    λ i. record { network = network i; said = inArrays (commit s u rest e) .said }
+    λ i. record { network = network i; posts = e .posts; said = inArrays (commit s u rest e) .said }

@@ -3,59 +3,56 @@
 use Prim.Native.Nat.{ℕ}
 use mathlib.Core.Bool.{cond}
 use mathlib.Core.List.{List, [], _∷_}
-use Rattle.refusal.specs.Code.{code}
-use Rattle.refusal.specs.Rules.{Coded, done, no}
+use lib.ListN.{length}
+use Rattle.refusal.specs.Code.{Reason, plain}
+use Rattle.refusal.specs.Rules.{Coded, no}
+use Rattle.node.specs.declared.Message.{Message}
 use Rattle.protocol.specs.declared.Call.{Call}
 use Rattle.protocol.specs.declared.Reply.{Reply}
 use Rattle.protocol.specs.Calls.{Result, applyOf as applyToLists}
-use Rattle.protocol.specs.Drain.{Drained, Drain as DrainOfLists, drainOf as drainLists}
+use Rattle.protocol.specs.Answer.{answered}
+use Rattle.protocol.specs.Drain.{drainOf as drainLists}
 use Rattle.network.specs.declared.Network.{Network}
 use Rattle.network.specs.Arrays.{live, wellFormed, held}
-use Rattle.calls.specs.declared.Answer.{Answer}
-use Rattle.calls.specs.declared.Answer.the-variants.{Done, Refused}
 use Rattle.calls.specs.declared.Called.{Called}
-use Rattle.calls.specs.declared.DrainAnswer.{DrainAnswer}
-use Rattle.calls.specs.declared.DrainAnswer.the-variants.{Ran, Refused as NotRun}
-use Rattle.calls.specs.declared.Drained.{Drained as DrainedNetwork}
+use Rattle.calls.specs.declared.Report.{Report}
 
--- ---- what a call or a drain comes to: the network left behind, and an answer or the number of a refusal
-pub record Applied (A : Type 0) : Type 0 where
+-- ---- the network left behind, the messages posted in their order, and an answer or the reason of a refusal
+pub record Applied : Type 0 where
   pub network : Network
-  pub said : Coded A
+  pub posts : List Message
+  pub said : Coded Reply
 
 -- "It carries only its number; bench or floor come back equal, nothing is posted."
-abbrev pub refused : {A : Type 0} → Network → ℕ → Applied A
-refused n number = record { network = n; said = no number }
+abbrev pub refused : Network → Reason → Applied
+refused n r = record { network = n; posts = []; said = no r }
 
 -- what comes of the lists, in arrays
-abbrev pub inArrays : Result → Applied Reply
-inArrays r = record { network = held (r .state); said = r .said }
-
-abbrev pub drainInArrays : DrainOfLists → Applied Drained
-drainInArrays d = record { network = held (d .state); said = d .said }
+abbrev pub inArrays : Result → Applied
+inArrays r = record { network = held (r .state); posts = r .posts; said = r .said }
 
 -- "6 a .. floor handed in is out of shape": the first refusal of every call; and else what the rules make of the lists
-unfoldable pub applyOf : Network → Call → Applied Reply
-applyOf n call = cond (wellFormed n) (inArrays (applyToLists (live n) call)) (refused n 6)
+unfoldable pub applyOf : Network → Call → Applied
+applyOf n call = cond (wellFormed n) (inArrays (applyToLists (live n) call)) (refused n (plain 6))
 
-unfoldable pub drainOf : Network → ℕ → Applied Drained
-drainOf n budget = cond (wellFormed n) (drainInArrays (drainLists (live n) budget)) (refused n 6)
+unfoldable pub drainOf : Network → ℕ → Applied
+drainOf n budget = cond (wellFormed n) (inArrays (drainLists (live n) budget)) (refused n (plain 6))
 
--- ---- "Where an answer is an enum, a definition gives this paper's number and values for each case of the enum."
-abbrev pub answered : Answer → Coded Reply
-answered (Done r) = done r
-answered (Refused r) = no (code r)
+-- ---- what the code hands back says all of it but the posts themselves, of which it says how many they are
+pub record Counted : Type 0 where
+  pub network : Network
+  pub posted : ℕ
+  pub said : Coded Reply
 
-abbrev pub ran : DrainAnswer → Coded Drained
-ran (Ran made left) = done (record { made = made; left = left })
-ran (NotRun r) = no (code r)
+abbrev pub counted : Applied → Counted
+counted a = record { network = a .network; posted = length (a .posts); said = a .said }
 
--- what the code hands back says
-abbrev pub called : Called → Applied Reply
-called c = record { network = c .network; said = answered (c .answer) }
+-- a report beside the network that it is of
+abbrev pub reported : Network → Report → Counted
+reported n r = record { network = n; posted = r .posted; said = answered (r .answer) }
 
-abbrev pub drained : DrainedNetwork → Applied Drained
-drained d = record { network = d .network; said = ran (d .answer) }
+abbrev pub called : Called → Counted
+called c = reported (c .network) (c .report)
 
 -- "a refused one stays in the list, and the next call gets the floor it handed back"
 abbrev pub run : Network → List Call → Network

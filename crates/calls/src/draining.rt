@@ -7,14 +7,18 @@ ghost use mathlib.Core.Option.{some};
 ghost use Prim.Native.Nat.{_<_, _≤_};
 ghost use Rattle.protocol.specs.Drain.{lowest};
 ghost use Rattle.network.specs.Arrays.{live, wellFormed};
-ghost use Rattle.calls.specs.Outcomes.{refused, drainOf, drained};
-use crate::DrainAnswer;
-use crate::Drained;
+ghost use Rattle.calls.specs.Outcomes.{called, counted, drainOf};
+ghost use Rattle.refusal.specs.Rules.{done};
+ghost use Rattle.protocol.specs.declared.Reply.the-variants.{Ran};
+use crate::Called;
+use crate::Report;
 use crate::formed;
 use crate::store;
 use network::CAPACITY;
 use network::Network;
 use network::QUEUE_LIMIT;
+use protocol::Answer;
+use protocol::Reply;
 use refusal::Refusal;
 
 fn lowest(network: Network) -> u8
@@ -32,27 +36,31 @@ fn lowest(network: Network) -> u8
     0
 }
 
-pub(crate) fn refuse(network: Network) -> Drained
-    ensures { λ r. ⌜ drained r ≡ refused network 6 ⌝ }
+fn ran(network: Network, made: u16, posted: u32) -> Called
+    ensures { λ r. ⌜ called r ≡ record { network = network; posted = posted; said = done (Ran made (network .waiting)) } ⌝ }
 {
-    Drained {
+    Called {
         network,
-        answer: DrainAnswer::Refused(Refusal::Malformed),
+        report: Report {
+            answer: Answer::Done(Reply::Ran {
+                made,
+                left: network.waiting,
+            }),
+            posted,
+        },
     }
 }
 
-pub(crate) fn run(network: Network, budget: u16) -> Drained
+pub(crate) fn run(network: Network, budget: u16) -> Called
     requires { ⌜ (network .count ≤ 32) × (network .waiting ≤ 64) ⌝ }
-    ensures { λ r. ⌜ (wellFormed network ≡ true → drained r ≡ drainOf network budget) ⌝ }
+    ensures { λ r. ⌜ (wellFormed network ≡ true → called r ≡ counted (drainOf network budget)) ⌝ }
 {
     let mut n = network;
     let mut made: u16 = 0;
+    let mut posted: u32 = 0;
     while made < budget {
         if n.waiting == 0 {
-            return Drained {
-                network: n,
-                answer: DrainAnswer::Ran { made, left: 0 },
-            };
+            return ran(n, made, posted);
         }
         // A step posts two messages at most, so that only a full queue has a place where a delivery finds no room.
         let mut place: u8 = 0;
@@ -62,7 +70,7 @@ pub(crate) fn run(network: Network, budget: u16) -> Drained
         let message = n.messages[place as usize];
         let to = message.to;
         if CAPACITY <= to {
-            return refuse(n);
+            return formed::refuse(n, Refusal::Malformed);
         }
         let node = n.nodes[to as usize];
         let step = node.receive(to, message);
@@ -70,21 +78,17 @@ pub(crate) fn run(network: Network, budget: u16) -> Drained
         let posts = step.posts;
         let last = n.waiting - 1;
         if !formed::has_room(last, posts) {
-            return refuse(n);
+            return formed::refuse(n, Refusal::Malformed);
         }
         let messages = n.messages;
         let end = last as usize;
         let queue = store::post(store::close(messages, end, place as usize), end, posts);
         n.nodes[to as usize] = after;
         n.messages = queue;
-        n.waiting = last + store::length_of(posts);
+        let count = posts.count();
+        n.waiting = last + count;
+        posted += count as u32;
         made += 1;
     }
-    Drained {
-        network: n,
-        answer: DrainAnswer::Ran {
-            made,
-            left: n.waiting,
-        },
-    }
+    ran(n, made, posted)
 }

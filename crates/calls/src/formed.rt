@@ -7,41 +7,46 @@ ghost use Prim.Native.Nat.{_+_, _-_, _<_, _≤_};
 ghost use lib.ListN.{length, getD, take};
 ghost use lib.Dec.{leb, eqb};
 ghost use Rattle.truth.specs.Tests.{everyBelow, any};
-ghost use Rattle.refusal.specs.Code.{code};
+ghost use Rattle.refusal.specs.Code.{reason};
 ghost use Rattle.refusal.specs.Rules.{first, checked};
-ghost use Rattle.node.specs.Shape.{isOut};
+ghost use Rattle.node.specs.Tests.{isOut};
 ghost use Rattle.node.specs.Actions.{effect, coded, posted as listed};
-ghost use Rattle.protocol.specs.declared.Call.the-variants.{Declare, Create, Join, Leave, Deliver};
-ghost use Rattle.protocol.specs.State.{isNotice, isNoticeTo};
+ghost use Rattle.protocol.specs.declared.Order.the-variants.{Declare, Create, Join, Leave};
+ghost use Rattle.protocol.specs.declared.Call.the-variants.{Order, Deliver};
+ghost use Rattle.protocol.specs.State.{isNoticeTo};
 ghost use Rattle.protocol.specs.Calls.{stepped, applyOf as applyToLists};
 ghost use Rattle.protocol.specs.History.{accepted};
 ghost use Rattle.network.specs.Arrays.{vacantNode, live, wellFormed};
-ghost use Rattle.calls.specs.Outcomes.{answered, called, refused, applyOf};
-ghost use Rattle.calls.specs.Changes.{committed, declareTests, createTests, afterStep, roomRules};
-use crate::Answer;
+ghost use Rattle.protocol.specs.Answer.{answered};
+ghost use Rattle.calls.specs.Outcomes.{called, counted, refused, applyOf};
+ghost use Rattle.calls.specs.Changes.{committed};
+ghost use Rattle.calls.specs.Computed.{declareTests, createTests, afterStep, roomRules};
 use crate::Called;
+use crate::Report;
 use crate::store;
 use network::CAPACITY;
 use network::Network;
 use network::QUEUE_LIMIT;
-use node::Kind;
 use node::Message;
 use node::Node;
 use node::Peer;
 use node::Posts;
-use node::Status;
 use node::Step;
 use node::Verdict;
+use protocol::Answer;
 use protocol::Reply;
 use refusal::Check;
 use refusal::Refusal;
 
 pub(crate) fn refuse(network: Network, refusal: Refusal) -> Called
-    ensures { λ r. ⌜ called r ≡ refused network (code refusal) ⌝ }
+    ensures { λ r. ⌜ called r ≡ counted (refused network (reason refusal)) ⌝ }
 {
     Called {
         network,
-        answer: Answer::Refused(refusal),
+        report: Report {
+            answer: Answer::Refused(refusal),
+            posted: 0,
+        },
     }
 }
 
@@ -54,17 +59,27 @@ fn answer_of(verdict: Verdict) -> Answer
     }
 }
 
+// What is told of a node's step.
+fn report_of(verdict: Verdict, posts: Posts) -> Report
+    ensures { λ r. ⌜ (answered (r .answer) ≡ stepped (coded verdict)) × (r .posted ≡ length (listed posts)) ⌝ }
+{
+    Report {
+        answer: answer_of(verdict),
+        posted: posts.count() as u32,
+    }
+}
+
 // Node `number` has made a step, and its posts find room.
 fn commit(network: Network, number: u8, step: Step) -> Called
     requires { ⌜ (number < 32) × (network .waiting + length (listed (step .posts)) ≤ 64) ⌝ }
-    ensures { λ r. ⌜ called r ≡ committed network number (effect step) ⌝ }
+    ensures { λ r. ⌜ called r ≡ counted (committed network number (effect step)) ⌝ }
 {
     let node = step.node;
     let posts = step.posts;
     let verdict = step.verdict;
     Called {
         network: store::stepped(network, number, node, posts),
-        answer: answer_of(verdict),
+        report: report_of(verdict, posts),
     }
 }
 
@@ -73,18 +88,7 @@ pub(crate) fn has_room(waiting: u8, posts: Posts) -> bool
     requires { ⌜ waiting ≤ 64 ⌝ }
     ensures { λ r. ⌜ r ≡ leb (waiting + length (listed posts)) 64 ⌝ }
 {
-    waiting + store::length_of(posts) <= QUEUE_LIMIT
-}
-
-fn is_out(status: Status) -> bool
-    ensures { λ r. ⌜ r ≡ isOut status ⌝ }
-{
-    match status {
-        Status::Out => true,
-        Status::Ins => false,
-        Status::In => false,
-        Status::Del => false,
-    }
+    waiting + posts.count() <= QUEUE_LIMIT
 }
 
 fn all_out(nodes: [Node; 32], count: usize) -> bool
@@ -96,7 +100,7 @@ fn all_out(nodes: [Node; 32], count: usize) -> bool
     while i < count {
         let node = nodes[i];
         let status = node.status;
-        ok = ok & is_out(status);
+        ok = ok & status.is_out();
         i += 1;
     }
     ok
@@ -117,21 +121,6 @@ fn key_is_new(nodes: [Node; 32], count: usize, key: u32) -> bool
     ok
 }
 
-fn is_notice(kind: Kind) -> bool
-    ensures { λ r. ⌜ r ≡ isNotice kind ⌝ }
-{
-    match kind {
-        Kind::SetR {
-            new: _,
-            expected: _,
-            number: _,
-        } => false,
-        Kind::SetRAck { number: _ } => false,
-        Kind::SetRNak => false,
-        Kind::SetL { left: _, number: _ } => true,
-    }
-}
-
 fn notice_waits(messages: [Message; 64], waiting: usize, node: u8) -> bool
     requires { ⌜ waiting ≤ 64 ⌝ }
     ensures { λ r. ⌜ r ≡ any (isNoticeTo node) (take waiting messages) ⌝ }
@@ -141,7 +130,7 @@ fn notice_waits(messages: [Message; 64], waiting: usize, node: u8) -> bool
     while i < waiting {
         let message = messages[i];
         let kind = message.kind;
-        found = found | (is_notice(kind) & (message.to == node));
+        found = found | (kind.is_notice() & (message.to == node));
         i += 1;
     }
     found
@@ -170,16 +159,19 @@ fn check_declare(network: Network, key: u32) -> Check
 
 pub(crate) fn declare(network: Network, key: u32) -> Called
     requires { ⌜ (network .count ≤ 32) × (network .waiting ≤ 64) ⌝ }
-    ensures { λ r. ⌜ (wellFormed network ≡ true → called r ≡ applyOf network (Declare key)) ⌝ }
+    ensures { λ r. ⌜ (wellFormed network ≡ true → called r ≡ counted (applyOf network (Order (Declare key)))) ⌝ }
 {
     match check_declare(network, key) {
         Check::Refuse(refusal) => refuse(network, refusal),
         Check::Clear => Called {
             network: store::add(network, Node::declared(key)),
-            answer: Answer::Done(Reply::Declared {
-                number: network.count,
-                key,
-            }),
+            report: Report {
+                answer: Answer::Done(Reply::Declared {
+                    number: network.count,
+                    key,
+                }),
+                posted: 0,
+            },
         },
     }
 }
@@ -203,7 +195,7 @@ fn check_create(network: Network, number: u8) -> Check
 
 pub(crate) fn create(network: Network, number: u8) -> Called
     requires { ⌜ (network .count ≤ 32) × (network .waiting ≤ 64) ⌝ }
-    ensures { λ r. ⌜ (wellFormed network ≡ true → called r ≡ applyOf network (Create number)) ⌝ }
+    ensures { λ r. ⌜ (wellFormed network ≡ true → called r ≡ counted (applyOf network (Order (Create number)))) ⌝ }
 {
     if network.count <= number {
         return refuse(network, Refusal::Undeclared);
@@ -246,7 +238,7 @@ fn peer(number: u8, node: Node) -> Peer
 
 pub(crate) fn join(network: Network, number: u8, left: u8, right: u8) -> Called
     requires { ⌜ (network .count ≤ 32) × (network .waiting ≤ 64) ⌝ }
-    ensures { λ r. ⌜ (wellFormed network ≡ true → called r ≡ applyOf network (Join number left right)) ⌝ }
+    ensures { λ r. ⌜ (wellFormed network ≡ true → called r ≡ counted (applyOf network (Order (Join number left right)))) ⌝ }
 {
     let count = network.count;
     let waiting = network.waiting;
@@ -273,7 +265,7 @@ pub(crate) fn join(network: Network, number: u8, left: u8, right: u8) -> Called
 
 pub(crate) fn leave(network: Network, number: u8) -> Called
     requires { ⌜ (network .count ≤ 32) × (network .waiting ≤ 64) ⌝ }
-    ensures { λ r. ⌜ (wellFormed network ≡ true → called r ≡ applyOf network (Leave number)) ⌝ }
+    ensures { λ r. ⌜ (wellFormed network ≡ true → called r ≡ counted (applyOf network (Order (Leave number)))) ⌝ }
 {
     let count = network.count;
     if count <= number {
@@ -307,7 +299,7 @@ pub(crate) fn delivers(network: Network, place: u8) -> bool
 
 pub(crate) fn deliver(network: Network, place: u8) -> Called
     requires { ⌜ (network .count ≤ 32) × (network .waiting ≤ 64) ⌝ }
-    ensures { λ r. ⌜ (wellFormed network ≡ true → called r ≡ applyOf network (Deliver place)) ⌝ }
+    ensures { λ r. ⌜ (wellFormed network ≡ true → called r ≡ counted (applyOf network (Deliver place))) ⌝ }
 {
     if network.waiting <= place {
         return refuse(network, Refusal::NoMessage);
@@ -326,7 +318,7 @@ pub(crate) fn deliver(network: Network, place: u8) -> Called
         Check::Refuse(refusal) => refuse(network, refusal),
         Check::Clear => Called {
             network: store::delivered(network, place, to, after, posts),
-            answer: answer_of(verdict),
+            report: report_of(verdict, posts),
         },
     }
 }

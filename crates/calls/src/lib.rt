@@ -4,62 +4,53 @@
 ghost use mathlib.Core.Path.{_≡_};
 ghost use mathlib.Core.Bool.{true};
 ghost use Rattle.network.specs.Arrays.{wellFormed};
-ghost use Rattle.calls.specs.Outcomes.{called, applyOf, drained, drainOf};
+ghost use Rattle.calls.specs.Outcomes.{called, counted, applyOf, drainOf};
 use network::CAPACITY;
 use network::Network;
 use network::QUEUE_LIMIT;
+use protocol::Answer;
 use protocol::Call;
-use protocol::Reply;
+use protocol::Order;
 use refusal::Refusal;
 
 mod draining;
 mod formed;
 mod store;
 
-// What a call answers: its reply, or why it was refused.
-pub enum Answer {
-    Done(Reply),
-    Refused(Refusal),
+// What is told of a call or a drain: its answer, and how many messages it posted.
+pub struct Report {
+    pub answer: Answer,
+    pub posted: u32,
 }
 
-// What a call hands back: the network as it leaves it, and its answer.
+// What a call or a drain hands back: the network as it leaves it, and the report.
 pub struct Called {
     pub network: Network,
-    pub answer: Answer,
-}
-
-// What a drain answers: the deliveries made and the messages left, or why it was refused.
-pub enum DrainAnswer {
-    Ran { made: u16, left: u8 },
-    Refused(Refusal),
-}
-
-// What a drain hands back.
-pub struct Drained {
-    pub network: Network,
-    pub answer: DrainAnswer,
+    pub report: Report,
 }
 
 // Any call, on a network that its holder knows to be well formed: no test of the whole network is made. On any other network the call is
 // safe and ends, and nothing is said of what it leaves; who does not know calls `apply`.
 pub fn apply_formed(network: Network, call: Call) -> Called
-    ensures { λ r. ⌜ (wellFormed network ≡ true → called r ≡ applyOf network call) ⌝ }
+    ensures { λ r. ⌜ (wellFormed network ≡ true → called r ≡ counted (applyOf network call)) ⌝ }
 {
     if (CAPACITY < network.count) | (QUEUE_LIMIT < network.waiting) {
         return formed::refuse(network, Refusal::Malformed);
     }
     match call {
-        Call::Declare(key) => formed::declare(network, key),
-        Call::Create(node) => formed::create(network, node),
-        Call::Join { node, left, right } => formed::join(network, node, left, right),
-        Call::Leave(node) => formed::leave(network, node),
+        Call::Order(order) => match order {
+            Order::Declare(key) => formed::declare(network, key),
+            Order::Create(node) => formed::create(network, node),
+            Order::Join { node, left, right } => formed::join(network, node, left, right),
+            Order::Leave(node) => formed::leave(network, node),
+        },
         Call::Deliver(place) => formed::deliver(network, place),
     }
 }
 
 // Any call, on any network.
 pub fn apply(network: Network, call: Call) -> Called
-    ensures { λ r. ⌜ called r ≡ applyOf network call ⌝ }
+    ensures { λ r. ⌜ called r ≡ counted (applyOf network call) ⌝ }
 {
     if network.is_well_formed() {
         apply_formed(network, call)
@@ -69,22 +60,22 @@ pub fn apply(network: Network, call: Call) -> Called
 }
 
 // A drain of a network that its holder knows to be well formed; of any other as `apply_formed`.
-pub fn drain_formed(network: Network, budget: u16) -> Drained
-    ensures { λ r. ⌜ (wellFormed network ≡ true → drained r ≡ drainOf network budget) ⌝ }
+pub fn drain_formed(network: Network, budget: u16) -> Called
+    ensures { λ r. ⌜ (wellFormed network ≡ true → called r ≡ counted (drainOf network budget)) ⌝ }
 {
     if (CAPACITY < network.count) | (QUEUE_LIMIT < network.waiting) {
-        return draining::refuse(network);
+        return formed::refuse(network, Refusal::Malformed);
     }
     draining::run(network, budget)
 }
 
 // A drain of any network.
-pub fn drain(network: Network, budget: u16) -> Drained
-    ensures { λ r. ⌜ drained r ≡ drainOf network budget ⌝ }
+pub fn drain(network: Network, budget: u16) -> Called
+    ensures { λ r. ⌜ called r ≡ counted (drainOf network budget) ⌝ }
 {
     if network.is_well_formed() {
         drain_formed(network, budget)
     } else {
-        draining::refuse(network)
+        formed::refuse(network, Refusal::Malformed)
     }
 }

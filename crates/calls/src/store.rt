@@ -41,16 +41,6 @@ pub(crate) fn close(messages: [Message; 64], last: usize, place: usize) -> [Mess
     queue
 }
 
-pub(crate) fn length_of(posts: Posts) -> u8
-    ensures { λ r. ⌜ r ≡ length (listed posts) ⌝ }
-{
-    match posts {
-        Posts::Nothing => 0,
-        Posts::One(_) => 1,
-        Posts::Two(_, _) => 2,
-    }
-}
-
 // The messages with a step's posts behind the first so many, "in the order named".
 pub(crate) fn post(messages: [Message; 64], waiting: usize, posts: Posts) -> [Message; 64]
     requires { ⌜ waiting + length (listed posts) ≤ 64 ⌝ }
@@ -81,7 +71,7 @@ pub(crate) fn stepped(network: Network, number: u8, node: Node, posts: Posts) ->
     let queue = post(messages, waiting as usize, posts);
     n.nodes[number as usize] = node;
     n.messages = queue;
-    n.waiting = waiting + length_of(posts);
+    n.waiting = waiting + posts.count();
     n
 }
 
@@ -103,6 +93,6 @@ pub(crate) fn delivered(
     let queue = post(close(messages, end, place as usize), end, posts);
     n.nodes[number as usize] = node;
     n.messages = queue;
-    n.waiting = last + length_of(posts);
+    n.waiting = last + posts.count();
     n
 }

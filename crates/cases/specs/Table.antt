@@ -4,8 +4,9 @@ use mathlib.Core.Path.{_≡_}
 use mathlib.Core.Bool.{true, false}
 use mathlib.Core.List.{List, [], _∷_}
 use Prim.Native.Nat.{ℕ, _+_}
+use Rattle.refusal.specs.Code.{plain}
 use Rattle.refusal.specs.Rules.{done, no}
-use Rattle.serial.specs.Serial.{packedOf, binaryOf}
+use Rattle.serial.specs.Serial.{coded, packedOf, binaryOf}
 use Rattle.interval.specs.Interval.{between}
 use Rattle.node.specs.declared.Status.the-variants.{Out, In}
 use Rattle.node.specs.declared.Link.the-variants.{To}
@@ -40,14 +41,14 @@ out0 left right lseq rseq = record { status = Out; key = 1_000; left = To left; 
 abbrev pub table : List Case
 table =
     -- BC 00 00 12 34 is 1,234. BN 34 12 00 00 is 4,660.
-    (packedOf (0x00 ∷ 0x00 ∷ 0x12 ∷ 0x34 ∷ []) is done 1_234)
-    ∷ (binaryOf (0x34 ∷ 0x12 ∷ 0x00 ∷ 0x00 ∷ []) is done 4_660)
+    (coded (packedOf (0x00 ∷ 0x00 ∷ 0x12 ∷ 0x34 ∷ [])) is done 1_234)
+    ∷ (coded (binaryOf (0x34 ∷ 0x12 ∷ 0x00 ∷ 0x00 ∷ [])) is done 4_660)
     -- BC 99 99 99 99 is 99,999,999; BC 00 00 00 0A is refused 3.
-    ∷ (packedOf (0x99 ∷ 0x99 ∷ 0x99 ∷ 0x99 ∷ []) is done 99_999_999)
-    ∷ (packedOf (0x00 ∷ 0x00 ∷ 0x00 ∷ 0x0a ∷ []) is no 3)
+    ∷ (coded (packedOf (0x99 ∷ 0x99 ∷ 0x99 ∷ 0x99 ∷ [])) is done 99_999_999)
+    ∷ (coded (packedOf (0x00 ∷ 0x00 ∷ 0x00 ∷ 0x0a ∷ [])) is no (plain 3))
     -- BN FF E0 F5 05 is 99,999,999; BN 00 E1 F5 05 is refused 4.
-    ∷ (binaryOf (0xff ∷ 0xe0 ∷ 0xf5 ∷ 0x05 ∷ []) is done 99_999_999)
-    ∷ (binaryOf (0x00 ∷ 0xe1 ∷ 0xf5 ∷ 0x05 ∷ []) is no 4)
+    ∷ (coded (binaryOf (0xff ∷ 0xe0 ∷ 0xf5 ∷ 0x05 ∷ [])) is done 99_999_999)
+    ∷ (coded (binaryOf (0x00 ∷ 0xe1 ∷ 0xf5 ∷ 0x05 ∷ [])) is no (plain 4))
     -- 5 is in (9, 7), 8 is not; 8 is in (9, 9), 9 is not.
     ∷ (between 9 7 5 is true)
     ∷ (between 9 7 8 is false)

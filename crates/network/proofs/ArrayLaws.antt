@@ -8,10 +8,12 @@ use native.Mathlib.Omega.{arith}
 use lib.ListN.{length, take, drop, replicate, length-drop, take-append-drop}
 use lib.Seq.{length-take-le, take-append-seam, drop-append-seam}
 use lib.Dec.{leb, eqb}
-use borrow.Author.Tests.{leb-true, le-leb, eqb-true, eq-eqb}
+use borrow.Author.Tests.{leb-true, le-leb, eqb-true}
 use Rattle.truth.specs.Tests.{every}
 use Rattle.truth.proofs.Laws.{both, true-is-not-false}
-use Rattle.sequence.specs.Sequence.{firstSeq}
+use Rattle.truth.proofs.TestLaws.{holds, is-true}
+use Rattle.sequence.specs.Sequence.{firstSeq, same}
+use Rattle.sequence.proofs.Laws.{same-iff}
 use Rattle.node.specs.declared.Link.{Link}
 use Rattle.node.specs.declared.Link.the-variants.{Unlinked, To}
 use Rattle.node.specs.declared.Seq.{Seq}
@@ -20,9 +22,10 @@ use Rattle.node.specs.declared.Node.{Node}
 use Rattle.node.specs.declared.Kind.{Kind}
 use Rattle.node.specs.declared.Kind.the-variants.{SetR, SetRAck, SetRNak, SetL}
 use Rattle.node.specs.declared.Message.{Message}
-use Rattle.node.specs.Shape.{isOut, linked, numbered, capacity}
+use Rattle.node.specs.Shape.{capacity}
+use Rattle.node.specs.Tests.{isOut, linked, numbered, isNak}
 use Rattle.node.proofs.ActionLaws.{tested-out}
-use Rattle.protocol.specs.State.{State, queueLimit, isNak, wellFormed as listsAreWellFormed}
+use Rattle.protocol.specs.State.{State, queueLimit, wellFormed as listsAreWellFormed}
 use Rattle.protocol.proofs.Facts.{formed as lists-formed}
 use Rattle.network.specs.declared.Network.{Network}
 use Rattle.network.specs.Arrays.{vacantNode, vacantMessage, isVacantNode, isVacantMessage, live, wellFormed, filled, held}
@@ -72,13 +75,13 @@ vacant-node u h =
     let (key, b) = both (eqb (u .key) 0) _ a in
     let (links, c) = both (not (linked (u .left)) && not (linked (u .right))) _ b in
     let (left, right) = both (not (linked (u .left))) _ links in
-    let (lseq, rseq) = both (eqb (u .lseq) firstSeq) _ c in
+    let (lseq, rseq) = both (same (u .lseq) firstSeq) _ c in
     λ i. record {
       status = tested-out (u .status) status i;
       key = eqb-true (u .key) 0 key i;
       left = no-link (u .left) left i;
       right = no-link (u .right) right i;
-      lseq = eqb-true (u .lseq) firstSeq lseq i;
+      lseq = same-iff (u .lseq) firstSeq .0 (holds lseq) i;
       rseq = no-number (u .rseq) rseq i;
     }
 
@@ -89,7 +92,7 @@ vacant-message m h =
     λ i. record { sender = eqb-true (m .sender) 0 sender i; to = eqb-true (m .to) 0 to i; kind = nak-kind (m .kind) kind i }
 
 pub node-is-vacant : isVacantNode vacantNode ≡ true
-node-is-vacant = rw (eq-eqb firstSeq firstSeq refl)
+node-is-vacant = rw (is-true (same firstSeq firstSeq) (same-iff firstSeq firstSeq .1 refl))
 
 -- ---- lists put into arrays come out again
 pub live-held : (s : State) → live (held s) ≡ s

@@ -4,3 +4,4 @@ pub mod Places
 pub mod Dealings
 pub mod Clauses
 pub mod LiveLaws
+pub mod Walking

@@ -6,12 +6,13 @@ use mathlib.Core.List.{List, _++_}
 use lib.ListN.{length, take, drop, replicate}
 use lib.Dec.{leb, eqb}
 use Rattle.truth.specs.Tests.{every}
-use Rattle.sequence.specs.Sequence.{firstSeq}
+use Rattle.sequence.specs.Sequence.{firstSeq, same}
 use Rattle.node.specs.declared.Node.{Node}
 use Rattle.node.specs.declared.Message.{Message}
-use Rattle.node.specs.Shape.{declaredOf, isOut, linked, numbered, capacity}
+use Rattle.node.specs.Shape.{declaredOf, capacity}
+use Rattle.node.specs.Tests.{isOut, linked, numbered, isNak}
 use Rattle.node.specs.Actions.{setRNak}
-use Rattle.protocol.specs.State.{State, queueLimit, isNak, empty as emptyLists, wellFormed as listsAreWellFormed}
+use Rattle.protocol.specs.State.{State, queueLimit, empty as emptyLists, wellFormed as listsAreWellFormed}
 use Rattle.network.specs.declared.Network.{Network}
 
 -- ---- "one fixed blank": of the nodes, and of the messages
@@ -29,7 +30,7 @@ isVacantNode u =
     isOut (u .status)
     && (eqb (u .key) 0
     && ((not (linked (u .left)) && not (linked (u .right)))
-    && (eqb (u .lseq) firstSeq && not (numbered (u .rseq)))))
+    && (same (u .lseq) firstSeq && not (numbered (u .rseq)))))
 
 -- whether a message is the blank: every field of it
 abbrev pub isVacantMessage : Message → Bool

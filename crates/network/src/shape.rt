@@ -5,8 +5,8 @@ ghost use Prim.Native.Nat.{ℕ, _<_, _≤_};
 ghost use lib.ListN.{length, getD, take};
 ghost use lib.Dec.{leb, eqb};
 ghost use Rattle.truth.specs.Tests.{count, every, everyBelow};
-ghost use Rattle.node.specs.Shape.{isOut, linked, numbered, nodeFits, messageFits};
-ghost use Rattle.protocol.specs.State.{isNak, isDealingOf, dealings};
+ghost use Rattle.node.specs.Shape.{nodeFits, messageFits};
+ghost use Rattle.protocol.specs.State.{isDealingOf, dealings};
 ghost use Rattle.network.specs.Arrays.{vacantNode, vacantMessage, isVacantNode, isVacantMessage, wellFormed};
 ghost use Rattle.network.specs.Walks.{everyPlace, dealerBy};
 use crate::CAPACITY;
@@ -16,52 +16,7 @@ use node::Kind;
 use node::Link;
 use node::Message;
 use node::Node;
-use node::Seq;
 use node::Status;
-
-fn is_out(status: Status) -> bool
-    ensures { λ r. ⌜ r ≡ isOut status ⌝ }
-{
-    match status {
-        Status::Out => true,
-        Status::Ins => false,
-        Status::In => false,
-        Status::Del => false,
-    }
-}
-
-fn is_linked(link: Link) -> bool
-    ensures { λ r. ⌜ r ≡ linked link ⌝ }
-{
-    match link {
-        Link::Unlinked => false,
-        Link::To(_) => true,
-    }
-}
-
-fn is_numbered(seq: Seq) -> bool
-    ensures { λ r. ⌜ r ≡ numbered seq ⌝ }
-{
-    match seq {
-        Seq::Unset => false,
-        Seq::Is(_) => true,
-    }
-}
-
-fn is_nak(kind: Kind) -> bool
-    ensures { λ r. ⌜ r ≡ isNak kind ⌝ }
-{
-    match kind {
-        Kind::SetR {
-            new: _,
-            expected: _,
-            number: _,
-        } => false,
-        Kind::SetRAck { number: _ } => false,
-        Kind::SetRNak => true,
-        Kind::SetL { left: _, number: _ } => false,
-    }
-}
 
 fn is_vacant_node(node: Node) -> bool
     ensures { λ r. ⌜ r ≡ isVacantNode node ⌝ }
@@ -70,17 +25,17 @@ fn is_vacant_node(node: Node) -> bool
     let left = node.left;
     let right = node.right;
     let rseq = node.rseq;
-    is_out(status)
+    status.is_out()
         & ((node.key == 0)
-            & ((!is_linked(left) & !is_linked(right))
-                & ((node.lseq == sequence::first()) & !is_numbered(rseq))))
+            & ((!left.is_linked() & !right.is_linked())
+                & (sequence::is_same(node.lseq, sequence::first()) & !rseq.is_numbered())))
 }
 
 fn is_vacant_message(message: Message) -> bool
     ensures { λ r. ⌜ r ≡ isVacantMessage message ⌝ }
 {
     let kind = message.kind;
-    (message.sender == 0) & ((message.to == 0) & is_nak(kind))
+    (message.sender == 0) & ((message.to == 0) & kind.is_nak())
 }
 
 // A place among the nodes: before the count a node that fits, and past it the blank.

@@ -19,8 +19,8 @@ use Rattle.node.specs.declared.Node.{Node}
 use Rattle.node.specs.declared.Message.{Message}
 use Rattle.node.specs.declared.Peer.{Peer}
 use Rattle.node.specs.declared.Outcome.the-variants.{Created, Waiting, LeftAlone}
-use Rattle.node.specs.Shape.{isOut, isIn}
-use Rattle.node.specs.Actions.{setR, setRAck, setL, target, linksTo, seqOf, withStatus, quiet, posting, createRules, created, createOf, joinRules, joining, joinOf, alone, leaveRules, leaveRequest, leaving, leaveOf, grants, relinked, granting, onSetR, actOf, receiveRules, receiveOf}
+use Rattle.node.specs.Tests.{isOut, isIn, target, linksTo, seqOf}
+use Rattle.node.specs.Actions.{setR, setRAck, setL, withStatus, quiet, posting, createRules, created, createOf, joinRules, joining, joinOf, alone, leaveRules, leaveRequest, leaving, leaveOf, grants, relinked, granting, onSetR, actOf, receiveRules, receiveOf}
 
 -- ---- what the tests say
 pub tested-out : (s : Status) → isOut s ≡ true → s ≡ Out

@@ -3,7 +3,7 @@
 use mathlib.Core.Path.{_≡_, refl, ap}
 use Prim.Native.Nat.{ℕ}
 use native.Mathlib.Omega.{arith}
-use Rattle.refusal.proofs.Laws.{code-injective}
+use Rattle.refusal.proofs.Laws.{reason-injective}
 use Rattle.node.specs.declared.Posts.{Posts}
 use Rattle.node.specs.declared.Posts.the-variants.{Nothing, One, Two}
 use Rattle.node.specs.declared.Verdict.{Verdict}
@@ -26,7 +26,7 @@ coded-injective : (a b : Verdict) → coded a ≡ coded b → a ≡ b
 coded-injective (Done o) (Done p) e = cc
 coded-injective (Done o) (Refused r) e = let z : _≡_ {A = ℕ} 0 1 = cc in absurd (omega arith)
 coded-injective (Refused r) (Done o) e = let z : _≡_ {A = ℕ} 0 1 = cc in absurd (omega arith)
-coded-injective (Refused r) (Refused s) e = ap Refused (code-injective r s cc)
+coded-injective (Refused r) (Refused s) e = ap Refused (reason-injective r s cc)
 
 pub effect-injective : (s t : Step) → effect s ≡ effect t → s ≡ t
 effect-injective s t e = λ i. record {

@@ -10,6 +10,7 @@ use native.Mathlib.Omega.{arith}
 use lib.Dec.{ltb, eqb}
 use borrow.Author.Tests.{ltb-true, lt-ltb, eq-eqb, not-false}
 use Rattle.truth.proofs.Laws.{both, or-right, not-left, true-is-not-false}
+use Rattle.refusal.specs.Code.{Reason}
 use Rattle.refusal.specs.Rules.{first, settled}
 use Rattle.refusal.proofs.Laws.{cleared}
 use Rattle.serial.specs.Serial.{inRange}
@@ -25,10 +26,11 @@ use Rattle.node.specs.declared.Kind.{Kind}
 use Rattle.node.specs.declared.Kind.the-variants.{SetR, SetRAck, SetRNak, SetL}
 use Rattle.node.specs.declared.Message.{Message}
 use Rattle.node.specs.declared.Peer.{Peer}
-use Rattle.node.specs.Shape.{isOut, isIn, isInOrDel, linked, linkFits, numbered, nodeFits, kindFits, messageFits, capacity, wellFormed, deliverable, peerFits}
+use Rattle.node.specs.Shape.{linkFits, nodeFits, kindFits, messageFits, capacity, wellFormed, deliverable, peerFits}
+use Rattle.node.specs.Tests.{isOut, isIn, isInOrDel, linked, numbered, target, seqOf, linksTo}
 use Rattle.node.specs.declared.Outcome.{Outcome}
 use Rattle.node.specs.declared.Outcome.the-variants.{Waiting, LeftOld, Dropped}
-use Rattle.node.specs.Actions.{Effect, refused, quiet, posting, setL, withStatus, target, seqOf, linksTo, createRules, created, creating, createOf, joinRules, joining, asking, joinOf, alone, leaveRules, leaveRequest, leaving, leaveOf, grants, notice, ack, relinked, granting, onSetR, admitted, onSetRAck, onSetRNak, leftSet, onSetL, onKind, actOf, receiveRules, receiveOf}
+use Rattle.node.specs.Actions.{Effect, refused, quiet, posting, setL, withStatus, createRules, created, creating, createOf, joinRules, joining, asking, joinOf, alone, leaveRules, leaveRequest, leaving, leaveOf, grants, notice, ack, relinked, granting, onSetR, admitted, onSetRAck, onSetRNak, leftSet, onSetL, onKind, actOf, receiveRules, receiveOf}
 use Rattle.node.proofs.ActionLaws.{Grant, granted}
 
 -- ---- the facts that the test of a node says
@@ -78,7 +80,7 @@ pub record EffectFits (count : ℕ) (e : Effect) : Type 0 where
   pub node : NodeFits count (e .node)
   pub posts : PostsFit count (e .posts)
 
-settled-fits : {count : ℕ} {u : Node} → NodeFits count u → (o : Option ℕ) (accepted : Effect) → (o ≡ none → EffectFits count accepted) → EffectFits count (settled o (refused u) accepted)
+settled-fits : {count : ℕ} {u : Node} → NodeFits count u → (o : Option Reason) (accepted : Effect) → (o ≡ none → EffectFits count accepted) → EffectFits count (settled o (refused u) accepted)
 settled-fits f none accepted g = g refl
 settled-fits f (some n) accepted g = record { node = f; posts = tt }
 

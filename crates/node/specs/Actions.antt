@@ -1,18 +1,18 @@
 -- What one node does with an order or a message: "The actions (004 Fig. 1)" of paper 01, in its order, each with its refusals before
 -- it. Every definition fixes the whole node, every message and the outcome. Definitions only.
 use Prim.Native.Nat.{ℕ}
-use mathlib.Core.Bool.{Bool, false, not, _&&_, _||_, cond}
+use mathlib.Core.Bool.{Bool, not, _&&_, _||_, cond}
 use mathlib.Core.List.{List, [], _∷_}
 use lib.Dec.{eqb}
-use Rattle.refusal.specs.Code.{code}
+use Rattle.refusal.specs.Code.{Reason, reason}
 use Rattle.refusal.specs.Rules.{Coded, done, no, Rule, _when_, ruled}
 use Rattle.interval.specs.Interval.{between}
 use Rattle.node.specs.declared.Status.{Status}
 use Rattle.node.specs.declared.Status.the-variants.{Out, Ins, In, Del}
 use Rattle.node.specs.declared.Link.{Link}
-use Rattle.node.specs.declared.Link.the-variants.{Unlinked, To}
+use Rattle.node.specs.declared.Link.the-variants.{To}
 use Rattle.node.specs.declared.Seq.{Seq}
-use Rattle.node.specs.declared.Seq.the-variants.{Unset, Is}
+use Rattle.node.specs.declared.Seq.the-variants.{Is}
 use Rattle.node.specs.declared.Node.{Node}
 use Rattle.node.specs.declared.Kind.{Kind}
 use Rattle.node.specs.declared.Kind.the-variants.{SetR, SetRAck, SetRNak, SetL}
@@ -25,11 +25,12 @@ use Rattle.node.specs.declared.Outcome.the-variants.{Created, Waiting, L
 use Rattle.node.specs.declared.Verdict.{Verdict}
 use Rattle.node.specs.declared.Verdict.the-variants.{Done, Refused}
 use Rattle.node.specs.declared.Step.{Step}
-use Rattle.sequence.specs.Sequence.{firstSeq, nextSeq, newer, hasNext, cappedNext}
-use Rattle.node.specs.Shape.{isOut, isIn, wellFormed, deliverable, peerFits}
+use Rattle.sequence.specs.Sequence.{Number, firstSeq, nextSeq, newer, hasNext, cappedNext}
+use Rattle.node.specs.Tests.{isOut, isIn, linksTo, target, seqOf}
+use Rattle.node.specs.Shape.{wellFormed, deliverable, peerFits}
 
 -- ---- what a step says
--- the node left behind, the messages posted in their order, and the outcome or the number of a refusal
+-- the node left behind, the messages posted in their order, and the outcome or the reason of a refusal
 pub record Effect : Type 0 where
   pub node : Node
   pub posts : List Message
@@ -42,15 +43,15 @@ posted (Two m n) = m ∷ n ∷ []
 
 abbrev pub coded : Verdict → Coded Outcome
 coded (Done o) = done o
-coded (Refused r) = no (code r)
+coded (Refused r) = no (reason r)
 
 -- what the code's answer says
 abbrev pub effect : Step → Effect
 effect s = record { node = s .node; posts = posted (s .posts); said = coded (s .verdict) }
 
 -- a refusal "carries only its number; bench or floor come back equal, nothing is posted"
-abbrev pub refused : Node → ℕ → Effect
-refused u n = record { node = u; posts = []; said = no n }
+abbrev pub refused : Node → Reason → Effect
+refused u r = record { node = u; posts = []; said = no r }
 
 -- a node that stays, or moves on, with no message
 abbrev pub quiet : Node → Outcome → Effect
@@ -61,36 +62,28 @@ abbrev pub posting : Node → Message → Outcome → Effect
 posting u m o = record { node = u; posts = m ∷ []; said = done o }
 
 -- ---- messages, by their sender, their addressee and the kind's own fields
-abbrev pub setR : ℕ → ℕ → ℕ → ℕ → ℕ → Message
+abbrev pub setR : ℕ → ℕ → ℕ → ℕ → Number → Message
 setR sender to new expected number = record { sender = sender; to = to; kind = SetR new expected number }
 
-abbrev pub setRAck : ℕ → ℕ → ℕ → Message
+abbrev pub setRAck : ℕ → ℕ → Number → Message
 setRAck sender to number = record { sender = sender; to = to; kind = SetRAck number }
 
 abbrev pub setRNak : ℕ → ℕ → Message
 setRNak sender to = record { sender = sender; to = to; kind = SetRNak }
 
-abbrev pub setL : ℕ → ℕ → ℕ → ℕ → Message
+abbrev pub setL : ℕ → ℕ → ℕ → Number → Message
 setL sender to left number = record { sender = sender; to = to; kind = SetL left number }
 
--- ---- parts of a node
+-- ---- a node changed: one setter for its status and one for each link with its number, which leave all other fields as they were
 -- "A bench that goes out retains its fields": so do all changes of status
 abbrev pub withStatus : Status → Node → Node
 withStatus s u = record { status = s; key = u .key; left = u .left; right = u .right; lseq = u .lseq; rseq = u .rseq }
 
--- the node that a link names; a link is missing only where refusal 6 comes first
-abbrev pub target : Link → ℕ
-target Unlinked = 0
-target (To n) = n
+abbrev pub withLeft : Link → Number → Node → Node
+withLeft l n u = record { status = u .status; key = u .key; left = l; right = u .right; lseq = n; rseq = u .rseq }
 
--- a right number; it is missing only where refusal 6 comes first
-abbrev pub seqOf : Seq → ℕ
-seqOf Unset = firstSeq
-seqOf (Is n) = n
-
-abbrev pub linksTo : Link → ℕ → Bool
-linksTo Unlinked m = false
-linksTo (To n) m = eqb n m
+abbrev pub withRight : Link → Seq → Node → Node
+withRight l n u = record { status = u .status; key = u .key; left = u .left; right = l; lseq = u .lseq; rseq = n }
 
 -- ---- "Create u: links to itself, both numbers 0, status in."
 -- "its create answers 23 unless out"
@@ -98,7 +91,7 @@ abbrev pub createRules : ℕ → Node → List Rule
 createRules me u = (6 when not (wellFormed me u)) ∷ (23 when not (isOut (u .status))) ∷ []
 
 abbrev pub created : ℕ → Node → Node
-created me u = record { status = In; key = u .key; left = To me; right = To me; lseq = firstSeq; rseq = Is firstSeq }
+created me u = withStatus In (withRight (To me) (Is firstSeq) (withLeft (To me) firstSeq u))
 
 abbrev pub creating : ℕ → Node → Effect
 creating me u = quiet (created me u) Created
@@ -116,7 +109,7 @@ joinRules me u p q =
     ∷ []
 
 abbrev pub joining : Node → Peer → Peer → Node
-joining u p q = record { status = Ins; key = u .key; left = To (p .number); right = To (q .number); lseq = u .lseq; rseq = u .rseq }
+joining u p q = withStatus Ins (withRight (To (q .number)) (u .rseq) (withLeft (To (p .number)) (u .lseq) u))
 
 abbrev pub joinRequest : ℕ → Node → Peer → Peer → Message
 joinRequest me u p q = setR me (p .number) me (q .number) (u .lseq)
@@ -139,7 +132,7 @@ leaveRules me u =
     ∷ (27 when not (alone me u) && not (hasNext (seqOf (u .rseq))))
     ∷ []
 
-abbrev pub leaveRequest : ℕ → Node → ℕ → Message
+abbrev pub leaveRequest : ℕ → Node → Number → Message
 leaveRequest me u next = setR me (target (u .left)) (target (u .right)) me next
 
 abbrev pub leaving : ℕ → Node → Effect
@@ -157,7 +150,7 @@ unfoldable pub grants : Node → ℕ → ℕ → ℕ → Bool
 grants p v new expected = isIn (p .status) && (linksTo (p .right) expected && (not (eqb new v) || hasNext (seqOf (p .rseq))))
 
 -- "If new = v (a join) post SetL(v, right number + 1) to the old right link; else post SetL(p, number) to new."
-abbrev pub notice : ℕ → Node → ℕ → ℕ → ℕ → Message
+abbrev pub notice : ℕ → Node → ℕ → ℕ → Number → Message
 notice me p v new number =
     cond (eqb new v)
     (setL me (target (p .right)) v (nextSeq (seqOf (p .rseq))))
@@ -168,8 +161,8 @@ abbrev pub ack : ℕ → Node → ℕ → Message
 ack me p v = setRAck me v (cappedNext (seqOf (p .rseq)))
 
 -- "Then right link := new, right number := number."
-abbrev pub relinked : Node → ℕ → ℕ → Node
-relinked p new number = record { status = p .status; key = p .key; left = p .left; right = To new; lseq = p .lseq; rseq = Is number }
+abbrev pub relinked : Node → ℕ → Number → Node
+relinked p new number = withRight (To new) (Is number) p
 
 abbrev pub granting : Node → Message → Message → Effect
 granting p notice answer = record { node = p; posts = notice ∷ answer ∷ []; said = done Granted }
@@ -178,17 +171,17 @@ granting p notice answer = record { node = p; posts = notice ∷ answer ∷ []; 
 abbrev pub denied : ℕ → Node → ℕ → Effect
 denied me p v = posting p (setRNak me v) Denied
 
-abbrev pub onSetR : ℕ → Node → ℕ → ℕ → ℕ → ℕ → Effect
+abbrev pub onSetR : ℕ → Node → ℕ → ℕ → ℕ → Number → Effect
 onSetR me p v new expected number =
     cond (grants p v new expected)
     (granting (relinked p new number) (notice me p v new number) (ack me p v))
     (denied me p v)
 
 -- ---- "SetRAck at ins: in, right number := its number. At del: out." "Answers at a bench that is in are dropped too."
-abbrev pub admitted : Node → ℕ → Node
-admitted u number = record { status = In; key = u .key; left = u .left; right = u .right; lseq = u .lseq; rseq = Is number }
+abbrev pub admitted : Node → Number → Node
+admitted u number = withStatus In (withRight (u .right) (Is number) u)
 
-abbrev pub onSetRAck : Status → Node → ℕ → Effect
+abbrev pub onSetRAck : Status → Node → Number → Effect
 onSetRAck Out u number = quiet u Dropped
 onSetRAck Ins u number = quiet (admitted u number) Joined
 onSetRAck In u number = quiet u Dropped
@@ -202,10 +195,10 @@ onSetRNak In u = quiet u Dropped
 onSetRNak Del u = quiet (withStatus In u) LeaveDenied
 
 -- ---- "SetL: if its number is greater than the left number, take both; else nothing."
-abbrev pub leftSet : Node → ℕ → ℕ → Node
-leftSet u left number = record { status = u .status; key = u .key; left = To left; right = u .right; lseq = number; rseq = u .rseq }
+abbrev pub leftSet : Node → ℕ → Number → Node
+leftSet u left number = withLeft (To left) number u
 
-abbrev pub onSetL : Node → ℕ → ℕ → Effect
+abbrev pub onSetL : Node → ℕ → Number → Effect
 onSetL u left number = cond (newer number (u .lseq)) (quiet (leftSet u left number) LeftSet) (quiet u LeftOld)
 
 -- ---- receiving a message

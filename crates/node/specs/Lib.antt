@@ -1,2 +1,3 @@
+pub mod Tests
 pub mod Shape
 pub mod Actions

@@ -1,35 +1,25 @@
 // SetRAck and SetRNak: the answers to a request.
 ghost use mathlib.Core.Path.{_≡_};
-ghost use Rattle.node.specs.Actions.{effect, admitted, onSetRAck, onSetRNak};
+ghost use Rattle.node.specs.Actions.{effect, onSetRAck, onSetRNak};
 use crate::Node;
 use crate::Outcome;
 use crate::Seq;
 use crate::Status;
 use crate::Step;
 use crate::parts;
+use sequence::Number;
 
-fn admit(node: Node, number: u16) -> Node
-    ensures { λ r. ⌜ r ≡ admitted node number ⌝ }
-{
-    let left = node.left;
-    let right = node.right;
-    Node {
-        status: Status::In,
-        key: node.key,
-        left,
-        right,
-        lseq: node.lseq,
-        rseq: Seq::Is(number),
-    }
-}
-
-pub fn on_set_r_ack(node: Node, number: u16) -> Step
+pub fn on_set_r_ack(node: Node, number: Number) -> Step
     ensures { λ r. ⌜ effect r ≡ onSetRAck (node .status) node number ⌝ }
 {
     let status = node.status;
+    let right = node.right;
     match status {
         Status::Out => parts::silent(node, Outcome::Dropped),
-        Status::Ins => parts::silent(admit(node, number), Outcome::Joined),
+        Status::Ins => {
+            let numbered = parts::with_right(node, right, Seq::Is(number));
+            parts::silent(parts::with_status(numbered, Status::In), Outcome::Joined)
+        }
         Status::In => parts::silent(node, Outcome::Dropped),
         Status::Del => parts::silent(parts::with_status(node, Status::Out), Outcome::Gone),
     }

@@ -20,21 +20,20 @@ fn check(node: Node, me: u8) -> Check
     refusal::rule(
         !shape::is_well_formed(node, me),
         Refusal::Malformed,
-        refusal::rule(!shape::is_out(status), Refusal::NotOut, Check::Clear),
+        refusal::rule(!status.is_out(), Refusal::NotOut, Check::Clear),
     )
 }
 
 fn created_as(node: Node, me: u8) -> Node
     ensures { λ r. ⌜ r ≡ created me node ⌝ }
 {
-    Node {
-        status: Status::In,
-        key: node.key,
-        left: Link::To(me),
-        right: Link::To(me),
-        lseq: sequence::first(),
-        rseq: Seq::Is(sequence::first()),
-    }
+    let first = sequence::first();
+    let linked = parts::with_right(
+        parts::with_left(node, Link::To(me), first),
+        Link::To(me),
+        Seq::Is(first),
+    );
+    parts::with_status(linked, Status::In)
 }
 
 impl Node {

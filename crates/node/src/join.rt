@@ -23,7 +23,7 @@ fn check(node: Node, me: u8, left: Peer, right: Peer) -> Check
         !(shape::is_well_formed(node, me) & (shape::peer_fits(left) & shape::peer_fits(right))),
         Refusal::Malformed,
         refusal::rule(
-            !shape::is_out(status),
+            !status.is_out(),
             Refusal::NotOut,
             refusal::rule(
                 !interval::is_between(left.key, right.key, node.key),
@@ -38,14 +38,12 @@ fn joining_between(node: Node, left: Peer, right: Peer) -> Node
     ensures { λ r. ⌜ r ≡ joining node left right ⌝ }
 {
     let rseq = node.rseq;
-    Node {
-        status: Status::Ins,
-        key: node.key,
-        left: Link::To(left.number),
-        right: Link::To(right.number),
-        lseq: node.lseq,
+    let linked = parts::with_right(
+        parts::with_left(node, Link::To(left.number), node.lseq),
+        Link::To(right.number),
         rseq,
-    }
+    );
+    parts::with_status(linked, Status::Ins)
 }
 
 fn join_request(node: Node, me: u8, left: Peer, right: Peer) -> Message

@@ -12,6 +12,7 @@ use crate::parts;
 use crate::shape;
 use refusal::Check;
 use refusal::Refusal;
+use sequence::Number;
 
 fn check(node: Node, me: u8) -> Check
     ensures { λ r. ⌜ checked r ≡ first (leaveRules me node) ⌝ }
@@ -23,10 +24,10 @@ fn check(node: Node, me: u8) -> Check
         !shape::is_well_formed(node, me),
         Refusal::Malformed,
         refusal::rule(
-            !shape::is_in(status),
+            !status.is_in(),
             Refusal::NotIn,
             refusal::rule(
-                !parts::links_to(right, me) & !parts::has_next(rseq),
+                !right.links_to(me) & !sequence::has_next(rseq.number()),
                 Refusal::SequenceSpent,
                 Check::Clear,
             ),
@@ -34,16 +35,16 @@ fn check(node: Node, me: u8) -> Check
     )
 }
 
-fn leave_request(node: Node, me: u8, next: u16) -> Message
+fn leave_request(node: Node, me: u8, next: Number) -> Message
     ensures { λ r. ⌜ r ≡ leaveRequest me node next ⌝ }
 {
     let left = node.left;
     let right = node.right;
     Message {
         sender: me,
-        to: parts::target_of(left),
+        to: left.target(),
         kind: Kind::SetR {
-            new: parts::target_of(right),
+            new: right.target(),
             expected: me,
             number: next,
         },
@@ -59,10 +60,11 @@ impl Node {
         match check(self, me) {
             Check::Refuse(refusal) => parts::refuse(self, refusal),
             Check::Clear => {
-                if parts::links_to(right, me) {
+                if right.links_to(me) {
                     parts::silent(parts::with_status(self, Status::Out), Outcome::LeftAlone)
                 } else {
-                    let request = leave_request(self, me, parts::next_of(rseq));
+                    let next = sequence::capped_next(rseq.number());
+                    let request = leave_request(self, me, next);
                     parts::posts_one(
                         parts::with_status(self, Status::Del),
                         request,

@@ -1,6 +1,7 @@
 // One node of the ring (paper 01's bench): its record, its messages, and what it does with an order or a message.
 // Each action takes the node by value, with the node's own number, and hands back the node, at most two messages and a verdict.
 use refusal::Refusal;
+use sequence::Number;
 
 mod answers;
 mod create;
@@ -11,6 +12,7 @@ mod receive;
 mod set_l;
 mod set_r;
 mod shape;
+mod tests;
 
 pub enum Status {
     Out,
@@ -28,7 +30,7 @@ pub enum Link {
 // A right number, which a node may lack.
 pub enum Seq {
     Unset,
-    Is(u16),
+    Is(Number),
 }
 
 pub struct Node {
@@ -36,15 +38,24 @@ pub struct Node {
     pub key: u32,
     pub left: Link,
     pub right: Link,
-    pub lseq: u16,
+    pub lseq: Number,
     pub rseq: Seq,
 }
 
 pub enum Kind {
-    SetR { new: u8, expected: u8, number: u16 },
-    SetRAck { number: u16 },
+    SetR {
+        new: u8,
+        expected: u8,
+        number: Number,
+    },
+    SetRAck {
+        number: Number,
+    },
     SetRNak,
-    SetL { left: u8, number: u16 },
+    SetL {
+        left: u8,
+        number: Number,
+    },
 }
 
 pub struct Message {

@@ -1,8 +1,7 @@
-// What a step answers, and the parts of a node that it reads and changes.
+// What a step answers, and the setters of a node: of its status, and of each link with its number. Every action is put together from these.
 ghost use mathlib.Core.Path.{_≡_};
-ghost use Rattle.refusal.specs.Code.{code};
-ghost use Rattle.sequence.specs.Sequence.{hasNext, cappedNext};
-ghost use Rattle.node.specs.Actions.{effect, refused, quiet, posting, withStatus, target, seqOf, linksTo};
+ghost use Rattle.refusal.specs.Code.{reason};
+ghost use Rattle.node.specs.Actions.{effect, refused, quiet, posting, withStatus, withLeft, withRight};
 use crate::Link;
 use crate::Message;
 use crate::Node;
@@ -13,9 +12,10 @@ use crate::Status;
 use crate::Step;
 use crate::Verdict;
 use refusal::Refusal;
+use sequence::Number;
 
 pub fn refuse(node: Node, refusal: Refusal) -> Step
-    ensures { λ r. ⌜ effect r ≡ refused node (code refusal) ⌝ }
+    ensures { λ r. ⌜ effect r ≡ refused node (reason refusal) ⌝ }
 {
     Step {
         node,
@@ -60,41 +60,33 @@ pub fn with_status(node: Node, status: Status) -> Node
     }
 }
 
-pub fn target_of(link: Link) -> u8
-    ensures { λ r. ⌜ r ≡ target link ⌝ }
+pub fn with_left(node: Node, left: Link, number: Number) -> Node
+    ensures { λ r. ⌜ r ≡ withLeft left number node ⌝ }
 {
-    match link {
-        Link::Unlinked => 0,
-        Link::To(n) => n,
+    let status = node.status;
+    let right = node.right;
+    let rseq = node.rseq;
+    Node {
+        status,
+        key: node.key,
+        left,
+        right,
+        lseq: number,
+        rseq,
     }
 }
 
-fn number_of(seq: Seq) -> u16
-    ensures { λ r. ⌜ r ≡ seqOf seq ⌝ }
+pub fn with_right(node: Node, right: Link, number: Seq) -> Node
+    ensures { λ r. ⌜ r ≡ withRight right number node ⌝ }
 {
-    match seq {
-        Seq::Unset => sequence::first(),
-        Seq::Is(n) => n,
-    }
-}
-
-pub fn has_next(seq: Seq) -> bool
-    ensures { λ r. ⌜ r ≡ hasNext (seqOf seq) ⌝ }
-{
-    sequence::has_next(number_of(seq))
-}
-
-pub fn next_of(seq: Seq) -> u16
-    ensures { λ r. ⌜ r ≡ cappedNext (seqOf seq) ⌝ }
-{
-    sequence::capped_next(number_of(seq))
-}
-
-pub fn links_to(link: Link, m: u8) -> bool
-    ensures { λ r. ⌜ r ≡ linksTo link m ⌝ }
-{
-    match link {
-        Link::Unlinked => false,
-        Link::To(n) => n == m,
+    let status = node.status;
+    let left = node.left;
+    Node {
+        status,
+        key: node.key,
+        left,
+        right,
+        lseq: node.lseq,
+        rseq: number,
     }
 }

@@ -14,6 +14,7 @@ use crate::set_r;
 use crate::shape;
 use refusal::Check;
 use refusal::Refusal;
+use sequence::Number;
 
 fn check(node: Node, me: u8, message: Message) -> Check
     ensures { λ r. ⌜ checked r ≡ first (receiveRules me node message) ⌝ }
@@ -30,7 +31,7 @@ impl Node {
         ensures { λ r. ⌜ effect r ≡ actOf me self sender kind ⌝ }
     {
         let status = self.status;
-        if shape::is_out(status) {
+        if status.is_out() {
             return parts::silent(self, Outcome::Dropped);
         }
         match kind {
@@ -63,7 +64,7 @@ impl Node {
         to: u8,
         new: u8,
         expected: u8,
-        number: u16,
+        number: Number,
     ) -> Step
         ensures { λ r. ⌜ effect r ≡ receiveOf me self (setR sender to new expected number) ⌝ }
     {
@@ -79,7 +80,7 @@ impl Node {
         self.receive(me, request)
     }
 
-    pub fn receive_set_r_ack(self, me: u8, sender: u8, to: u8, number: u16) -> Step
+    pub fn receive_set_r_ack(self, me: u8, sender: u8, to: u8, number: Number) -> Step
         ensures { λ r. ⌜ effect r ≡ receiveOf me self (setRAck sender to number) ⌝ }
     {
         let ack = Message {
@@ -101,7 +102,7 @@ impl Node {
         self.receive(me, nak)
     }
 
-    pub fn receive_set_l(self, me: u8, sender: u8, to: u8, left: u8, number: u16) -> Step
+    pub fn receive_set_l(self, me: u8, sender: u8, to: u8, left: u8, number: Number) -> Step
         ensures { λ r. ⌜ effect r ≡ receiveOf me self (setL sender to left number) ⌝ }
     {
         let notice = Message {

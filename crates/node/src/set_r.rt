@@ -1,6 +1,6 @@
 // SetR: a node grants or denies a request to change its right link.
 ghost use mathlib.Core.Path.{_≡_};
-ghost use Rattle.node.specs.Actions.{effect, grants, relinked, granting, onSetR};
+ghost use Rattle.node.specs.Actions.{effect, grants, granting, onSetR};
 use crate::Kind;
 use crate::Link;
 use crate::Message;
@@ -11,7 +11,7 @@ use crate::Seq;
 use crate::Step;
 use crate::Verdict;
 use crate::parts;
-use crate::shape;
+use sequence::Number;
 
 fn grants_request(node: Node, sender: u8, new: u8, expected: u8) -> bool
     ensures { λ r. ⌜ r ≡ grants node sender new expected ⌝ }
@@ -19,23 +19,8 @@ fn grants_request(node: Node, sender: u8, new: u8, expected: u8) -> bool
     let status = node.status;
     let right = node.right;
     let rseq = node.rseq;
-    shape::is_in(status)
-        & (parts::links_to(right, expected) & ((new != sender) | parts::has_next(rseq)))
-}
-
-fn relink(node: Node, new: u8, number: u16) -> Node
-    ensures { λ r. ⌜ r ≡ relinked node new number ⌝ }
-{
-    let status = node.status;
-    let left = node.left;
-    Node {
-        status,
-        key: node.key,
-        left,
-        right: Link::To(new),
-        lseq: node.lseq,
-        rseq: Seq::Is(number),
-    }
+    status.is_in()
+        & (right.links_to(expected) & ((new != sender) | sequence::has_next(rseq.number())))
 }
 
 fn grant(node: Node, notice: Message, ack: Message) -> Step
@@ -48,7 +33,7 @@ fn grant(node: Node, notice: Message, ack: Message) -> Step
     }
 }
 
-pub fn on_set_r(node: Node, me: u8, sender: u8, new: u8, expected: u8, number: u16) -> Step
+pub fn on_set_r(node: Node, me: u8, sender: u8, new: u8, expected: u8, number: Number) -> Step
     ensures { λ r. ⌜ effect r ≡ onSetR me node sender new expected number ⌝ }
 {
     let right = node.right;
@@ -61,7 +46,8 @@ pub fn on_set_r(node: Node, me: u8, sender: u8, new: u8, expected: u8, number: u
         };
         return parts::posts_one(node, nak, Outcome::Denied);
     }
-    let next = parts::next_of(rseq);
+    let next = sequence::capped_next(rseq.number());
+    let relinked = parts::with_right(node, Link::To(new), Seq::Is(number));
     let ack = Message {
         sender: me,
         to: sender,
@@ -70,18 +56,18 @@ pub fn on_set_r(node: Node, me: u8, sender: u8, new: u8, expected: u8, number: u
     if new == sender {
         let to_right = Message {
             sender: me,
-            to: parts::target_of(right),
+            to: right.target(),
             kind: Kind::SetL {
                 left: sender,
                 number: next,
             },
         };
-        return grant(relink(node, new, number), to_right, ack);
+        return grant(relinked, to_right, ack);
     }
     let to_new = Message {
         sender: me,
         to: new,
         kind: Kind::SetL { left: me, number },
     };
-    grant(relink(node, new, number), to_new, ack)
+    grant(relinked, to_new, ack)
 }

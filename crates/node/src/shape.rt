@@ -1,6 +1,6 @@
 // The record of a node just declared, and the tests of what is handed in to a step.
 ghost use mathlib.Core.Path.{_≡_};
-ghost use Rattle.node.specs.Shape.{declaredOf, isOut, isIn, isInOrDel, linked, linkFits, numbered, nodeFits, kindFits, messageFits, wellFormed, deliverable, peerFits};
+ghost use Rattle.node.specs.Shape.{declaredOf, linkFits, nodeFits, kindFits, messageFits, wellFormed, deliverable, peerFits};
 use crate::Kind;
 use crate::Link;
 use crate::Message;
@@ -9,63 +9,12 @@ use crate::Peer;
 use crate::Seq;
 use crate::Status;
 
-pub fn is_out(status: Status) -> bool
-    ensures { λ r. ⌜ r ≡ isOut status ⌝ }
-{
-    match status {
-        Status::Out => true,
-        Status::Ins => false,
-        Status::In => false,
-        Status::Del => false,
-    }
-}
-
-pub fn is_in(status: Status) -> bool
-    ensures { λ r. ⌜ r ≡ isIn status ⌝ }
-{
-    match status {
-        Status::Out => false,
-        Status::Ins => false,
-        Status::In => true,
-        Status::Del => false,
-    }
-}
-
-fn is_in_or_del(status: Status) -> bool
-    ensures { λ r. ⌜ r ≡ isInOrDel status ⌝ }
-{
-    match status {
-        Status::Out => false,
-        Status::Ins => false,
-        Status::In => true,
-        Status::Del => true,
-    }
-}
-
-fn is_linked(link: Link) -> bool
-    ensures { λ r. ⌜ r ≡ linked link ⌝ }
-{
-    match link {
-        Link::Unlinked => false,
-        Link::To(_) => true,
-    }
-}
-
 fn link_fits(link: Link, count: u8) -> bool
     ensures { λ r. ⌜ r ≡ linkFits count link ⌝ }
 {
     match link {
         Link::Unlinked => true,
         Link::To(n) => n < count,
-    }
-}
-
-fn is_numbered(seq: Seq) -> bool
-    ensures { λ r. ⌜ r ≡ numbered seq ⌝ }
-{
-    match seq {
-        Seq::Unset => false,
-        Seq::Is(_) => true,
     }
 }
 
@@ -109,8 +58,8 @@ impl Node {
         let rseq = self.rseq;
         serial::in_range(self.key)
             & ((link_fits(left, count) & link_fits(right, count))
-                & ((is_out(status) | (is_linked(left) & is_linked(right)))
-                    & (!is_in_or_del(status) | is_numbered(rseq))))
+                & ((status.is_out() | (left.is_linked() & right.is_linked()))
+                    & (!status.is_in_or_del() | rseq.is_numbered())))
     }
 }
 

@@ -3,29 +3,31 @@ use Prim.Native.Nat.{ℕ, suc}
 use mathlib.Core.Path.{_≡_, refl}
 use mathlib.Core.List.{List, [], _∷_, _++_}
 use Rattle.text.specs.Text.{ascii, decimal}
+use Rattle.refusal.specs.Code.{plain}
 use Rattle.refusal.specs.Rules.{Coded, done, no}
 use Rattle.node.specs.declared.Outcome.the-variants.{Created, Waiting, Granted, Denied, Joined, LeaveDenied, LeftSet}
-use Rattle.protocol.specs.declared.Reply.the-variants.{Declared, Stepped}
-use Rattle.printout.specs.Lines.{Remark, reply, owner, heading, lineOf, lastLine}
+use Rattle.protocol.specs.declared.Reply.{Reply}
+use Rattle.protocol.specs.declared.Reply.the-variants.{Declared, Stepped, Owner}
+use Rattle.printout.specs.Lines.{heading, lineOf, lastLine}
 
-abbrev lines : ℕ → List (Coded Remark) → List ℕ
+abbrev lines : ℕ → List (Coded Reply) → List ℕ
 lines ordinal [] = []
 lines ordinal (s ∷ rest) = lineOf ordinal s ++ lines (suc ordinal) rest
 
-abbrev saidInThePaper : List (Coded Remark)
+abbrev saidInThePaper : List (Coded Reply)
 saidInThePaper =
-    done (reply (Declared 0 1_000))
-    ∷ done (reply (Declared 1 2_000))
-    ∷ done (reply (Stepped Created))
-    ∷ done (reply (Stepped Waiting))
-    ∷ done (reply (Stepped Granted))
-    ∷ done (reply (Stepped Joined))
-    ∷ done (reply (Stepped Waiting))
-    ∷ done (reply (Stepped Denied))
-    ∷ done (reply (Stepped LeftSet))
-    ∷ done (reply (Stepped LeaveDenied))
-    ∷ done (owner (record { node = 1; hops = 1 }))
-    ∷ no 29
+    done (Declared 0 1_000)
+    ∷ done (Declared 1 2_000)
+    ∷ done (Stepped Created)
+    ∷ done (Stepped Waiting)
+    ∷ done (Stepped Granted)
+    ∷ done (Stepped Joined)
+    ∷ done (Stepped Waiting)
+    ∷ done (Stepped Denied)
+    ∷ done (Stepped LeftSet)
+    ∷ done (Stepped LeaveDenied)
+    ∷ done (Owner 1 1)
+    ∷ no (plain 29)
     ∷ []
 
 abbrev printout : List ℕ

@@ -9,7 +9,8 @@ use Rattle.text.proofs.Laws.{place-at-most}
 use Rattle.text.proofs.DecimalLaws.{few-digits}
 use Rattle.node.specs.declared.Outcome.{Outcome}
 use Rattle.node.specs.declared.Outcome.the-variants.{Created, Waiting, LeftAlone, Granted, Denied, Joined, Gone, JoinDenied, LeaveDenied, LeftSet, LeftOld, Dropped}
-use Rattle.printout.specs.Lines.{Remark, outcomeWord, pair, words, lineOf, lastLine}
+use Rattle.protocol.specs.declared.Reply.{Reply}
+use Rattle.printout.specs.Lines.{outcomeWord, pair, words, lineOf, lastLine}
 
 -- ---- no words take more than 27 bytes, and no line more than 40
 pub short-pair : (word : List ℕ) (n : ℕ) (second : List ℕ) (m : ℕ) → length word + length second ≤ 12 → n < 2 ^ 16 → m < 2 ^ 32
@@ -31,7 +32,7 @@ short-outcome LeftSet = omega arith
 short-outcome LeftOld = omega arith
 short-outcome Dropped = omega arith
 
-pub short-line : (ordinal : ℕ) (s : Coded Remark) → ordinal < 2 ^ 32 → length (words s) ≤ 27 → length (lineOf ordinal s) ≤ 40
+pub short-line : (ordinal : ℕ) (s : Coded Reply) → ordinal < 2 ^ 32 → length (words s) ≤ 27 → length (lineOf ordinal s) ≤ 40
 unfolding lineOf
 short-line ordinal s large short = simp length-append (omega (arith, few-digits 10 ordinal (omega arith) (omega arith)))
 

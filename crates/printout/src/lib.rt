@@ -4,18 +4,14 @@ ghost use Prim.Native.Nat.{_+_, _≤_};
 ghost use lib.ListN.{length, take};
 ghost use Rattle.io.specs.Counts.{Counts};
 ghost use Rattle.text.specs.Text.{Put};
-ghost use Rattle.printout.specs.Lines.{said, pair, outcomeWord, replyWords, words, lineOf, lastLine};
+ghost use Rattle.refusal.specs.Code.{reason};
+ghost use Rattle.refusal.specs.Rules.{no};
+ghost use Rattle.protocol.specs.Answer.{answered};
+ghost use Rattle.printout.specs.Lines.{pair, outcomeWord, replyWords, words, lineOf, lastLine};
 use node::Outcome;
+use protocol::Answer;
 use protocol::Reply;
 use refusal::Refusal;
-
-// What is said of a record: a call's reply, the owner of a serial, what a drain did, or why the record was refused.
-pub enum Said {
-    Replied(Reply),
-    Found { node: u8, hops: u8 },
-    Ran { made: u16, left: u8 },
-    Refused(Refusal),
-}
 
 // A word and a number, and then another word and another number.
 fn put_pair(line: &mut [u8; 40], at: usize, word: &[u8], n: u16, second: &[u8], m: u32) -> usize
@@ -58,42 +54,43 @@ fn put_reply(line: &mut [u8; 40], at: usize, reply: Reply) -> usize
             put_pair(line, at, b"bench ", number as u16, b" key ", key)
         }
         Reply::Stepped(outcome) => put_outcome(line, at, outcome),
+        Reply::Owner { node, hops } => {
+            put_pair(line, at, b"owner ", node as u16, b" hops ", hops as u32)
+        }
+        Reply::Ran { made, left } => { put_pair(line, at, b"ran ", made, b" left ", left as u32) }
+        Reply::Inserted { word: _, size: _ } => text::append(line, at, b""),
     }
 }
 
 fn put_refusal(line: &mut [u8; 40], at: usize, refusal: Refusal) -> usize
     requires { ⌜ at ≤ 11 ⌝ }
-    ensures { λ r. ⌜ Put (now (line .entry)) at (words (said (Said.Refused refusal))) (now (line .exit)) r ⌝ }
-    ensures { λ _. ⌜ length (words (said (Said.Refused refusal))) ≤ 27 ⌝ }
+    ensures { λ r. ⌜ Put (now (line .entry)) at (words (no (reason refusal))) (now (line .exit)) r ⌝ }
+    ensures { λ _. ⌜ length (words (no (reason refusal))) ≤ 27 ⌝ }
 {
     let at = text::append(line, at, b"no ");
     text::append_decimal(line, at, refusal.number() as u32)
 }
 
-fn put_words(line: &mut [u8; 40], at: usize, what: Said) -> usize
+fn put_answer(line: &mut [u8; 40], at: usize, answer: Answer) -> usize
     requires { ⌜ at ≤ 11 ⌝ }
-    ensures { λ r. ⌜ Put (now (line .entry)) at (words (said what)) (now (line .exit)) r ⌝ }
-    ensures { λ _. ⌜ length (words (said what)) ≤ 27 ⌝ }
+    ensures { λ r. ⌜ Put (now (line .entry)) at (words (answered answer)) (now (line .exit)) r ⌝ }
+    ensures { λ _. ⌜ length (words (answered answer)) ≤ 27 ⌝ }
 {
-    match what {
-        Said::Replied(reply) => put_reply(line, at, reply),
-        Said::Found { node, hops } => {
-            put_pair(line, at, b"owner ", node as u16, b" hops ", hops as u32)
-        }
-        Said::Ran { made, left } => { put_pair(line, at, b"ran ", made, b" left ", left as u32) }
-        Said::Refused(refusal) => put_refusal(line, at, refusal),
+    match answer {
+        Answer::Done(reply) => put_reply(line, at, reply),
+        Answer::Refused(refusal) => put_refusal(line, at, refusal),
     }
 }
 
 // The line of a record, and how many bytes it has.
-pub fn line(ordinal: u32, what: Said, line: &mut [u8; 40]) -> usize
+pub fn line(ordinal: u32, answer: Answer, line: &mut [u8; 40]) -> usize
     ensures { λ r. ⌜ Counts r (now (line .exit)) ⌝ }
-    ensures { λ r. ⌜ take r (now (line .exit)) ≡ lineOf ordinal (said what) ⌝ }
-    ensures { λ _. ⌜ length (lineOf ordinal (said what)) ≤ 40 ⌝ }
+    ensures { λ r. ⌜ take r (now (line .exit)) ≡ lineOf ordinal (answered answer) ⌝ }
+    ensures { λ _. ⌜ length (lineOf ordinal (answered answer)) ≤ 40 ⌝ }
 {
     let at = text::append_decimal(line, 0, ordinal);
     let at = text::append(line, at, b" ");
-    let at = put_words(line, at, what);
+    let at = put_answer(line, at, answer);
     text::append(line, at, b"\n")
 }
 

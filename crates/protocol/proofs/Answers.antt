@@ -14,7 +14,8 @@ use Rattle.node.specs.declared.Seq.the-variants.{Is}
 use Rattle.node.specs.declared.Node.{Node}
 use Rattle.node.specs.declared.Message.{Message}
 use Rattle.node.specs.Actions.{setR, setRAck, setRNak, setL, withStatus, admitted}
-use Rattle.protocol.specs.State.{isAckTo, isDealingOf, isNotice, isInserted}
+use Rattle.protocol.specs.State.{isAckTo, isDealingOf, isInserted}
+use Rattle.node.specs.Tests.{isNotice}
 use Rattle.protocol.proofs.Nodes.{At, unchanged}
 use Rattle.protocol.proofs.Waiting.{Taken, Dealt, apart, request-deals, ack-deals, nak-deals, only-dealing, no-ack, acks-left}
 use Rattle.protocol.proofs.Fields.{statusOf, keyOf, leftOf, rightOf, lseqOf, rseqOf}

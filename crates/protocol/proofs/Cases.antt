@@ -13,6 +13,7 @@ use lib.Dec.{ltb, eqb}
 use borrow.Author.Tests.{ltb-true, lt-ltb, eqb-false, eq-eqb, not-true, not-false}
 use Rattle.truth.proofs.Laws.{or-right, left-fails, by-test}
 use Rattle.truth.proofs.TestLaws.{_∈_, decided, holds, not-both, count-in, below-at}
+use Rattle.refusal.specs.Code.{Reason}
 use Rattle.refusal.specs.Rules.{first, settled}
 use Rattle.refusal.proofs.Laws.{Cleared, cleared}
 use Rattle.serial.specs.Serial.{inRange}
@@ -24,13 +25,15 @@ use Rattle.node.specs.declared.Status.the-variants.{Out, Ins, In, Del}
 use Rattle.node.specs.declared.Kind.{Kind}
 use Rattle.node.specs.declared.Kind.the-variants.{SetR, SetRAck, SetRNak, SetL}
 use Rattle.node.specs.declared.Message.{Message}
-use Rattle.node.specs.Shape.{isOut, isInOrDel, capacity}
-use Rattle.node.specs.Actions.{Effect, target, seqOf, alone, leaveRules as leaveStepRules, grants, onSetR, onSetRAck, onSetRNak, onSetL, onKind, actOf}
+use Rattle.node.specs.Shape.{capacity}
+use Rattle.node.specs.Tests.{isOut, isInOrDel, target, seqOf, isRequest}
+use Rattle.node.specs.Actions.{Effect, alone, leaveRules as leaveStepRules, grants, onSetR, onSetRAck, onSetRNak, onSetL, onKind, actOf}
 use Rattle.node.proofs.ActionLaws.{tested-out, tested-in, tested-link, granted, create-accepted, join-accepted, leave-alone-accepted, leave-accepted, receive-accepted, join-granted, leave-granted}
 use Rattle.node.proofs.FitLaws.{NodeFits, message-facts, left-named, right-named, number-named, well-formed-among, deliverable-among}
 use Rattle.protocol.specs.declared.Call.{Call}
-use Rattle.protocol.specs.declared.Call.the-variants.{Declare, Create, Join, Leave, Deliver}
-use Rattle.protocol.specs.State.{State, queueLimit, nodeAt, statusAt, keyAt, leftAt, rightAt, isRequest, isAnswer, isDealingOf, dealings, wellFormed}
+use Rattle.protocol.specs.declared.Order.the-variants.{Declare, Create, Join, Leave}
+use Rattle.protocol.specs.declared.Call.the-variants.{Order, Deliver}
+use Rattle.protocol.specs.State.{State, queueLimit, nodeAt, statusAt, keyAt, leftAt, rightAt, isAnswer, isDealingOf, dealings, wellFormed}
 use Rattle.protocol.specs.Calls.{refused, commit, isFull, isGrantable, declareRules, declaring, createRules, creating, peerAt, joinRules, joining, leaveRules, leaving, messageAt, without, wouldGrant, deliverRules, receiving, delivering, rulesOf, effectOf, applyOf}
 use Rattle.protocol.proofs.Waiting.{taken}
 use Rattle.protocol.proofs.Facts.{WellFormed, formed, tested}
@@ -44,7 +47,7 @@ tested-between : (a b u : ℕ) → not (between a b u) ≡ false → Between a b
 tested-between a b u e = between-iff a b u .0 (holds (not-false (between a b u) e))
 
 -- ---- the calls
-declare-case : (s : State) (key : ℕ) → first (declareRules s key) ≡ none → Accepted s (Declare key) (declaring s key)
+declare-case : (s : State) (key : ℕ) → first (declareRules s key) ≡ none → Accepted s (Order (Declare key)) (declaring s key)
 declare-case s key clear =
     let (_, (fits, (room, (new, _)))) = cleared (declareRules s key) clear in
     let differs = below-at (length (s .nodes)) (λ v. not (eqb (keyAt s v) key)) (not-false _ new) in
@@ -54,7 +57,7 @@ declare-case s key clear =
       is-new = λ v h. eqb-false (keyAt s v) key (not-true _ (differs v h));
     } refl
 
-create-case : (s : State) (u : ℕ) → first (createRules s u) ≡ none → Accepted s (Create u) (creating s u)
+create-case : (s : State) (u : ℕ) → first (createRules s u) ≡ none → Accepted s (Order (Create u)) (creating s u)
 create-case s u clear =
     let (ok, (known, (out, (no-notice, _)))) = cleared (createRules s u) clear in
     let w = formed s (not-false (wellFormed s) ok) in
@@ -67,7 +70,7 @@ create-case s u clear =
       no-notice = no-notice;
     } (rw (create-accepted u (nodeAt s u) (ap not sound, (ap not (all-out u declared), tt)), append-nil))
 
-join-case : (s : State) (u p q : ℕ) → first (joinRules s u p q) ≡ none → Accepted s (Join u p q) (joining s u p q)
+join-case : (s : State) (u p q : ℕ) → first (joinRules s u p q) ≡ none → Accepted s (Order (Join u p q)) (joining s u p q)
 join-case s u p q clear =
     let (_, (known, (left, (right, (sound, (out, (lies, (no-notice, (room, _))))))))) = cleared (joinRules s u p q) clear in
     asks u p q refl record {
@@ -80,7 +83,7 @@ join-case s u p q clear =
       room = tested-below (length (s .messages)) queueLimit room;
     } (rw (join-accepted u (nodeAt s u) (peerAt s p) (peerAt s q) (sound, (out, (lies, tt)))))
 
-leave-case : (s : State) (u : ℕ) → first (leaveRules s u) ≡ none → Accepted s (Leave u) (leaving s u)
+leave-case : (s : State) (u : ℕ) → first (leaveRules s u) ≡ none → Accepted s (Order (Leave u)) (leaving s u)
 leave-case s u clear =
     let (ok, (known, (sound, (inside, (unspent, (room, _)))))) = cleared (leaveRules s u) clear in
     let declared : u < length (s .nodes) = tested-below u _ known in
@@ -203,16 +206,16 @@ delivery {s} {place} w present room =
 
 -- ---- any call
 pub accepted-case : (s : State) (call : Call) → first (rulesOf s call) ≡ none → Accepted s call (effectOf s call)
-accepted-case s (Declare key) clear = declare-case s key clear
-accepted-case s (Create u) clear = create-case s u clear
-accepted-case s (Join u p q) clear = join-case s u p q clear
-accepted-case s (Leave u) clear = leave-case s u clear
+accepted-case s (Order (Declare key)) clear = declare-case s key clear
+accepted-case s (Order (Create u)) clear = create-case s u clear
+accepted-case s (Order (Join u p q)) clear = join-case s u p q clear
+accepted-case s (Order (Leave u)) clear = leave-case s u clear
 accepted-case s (Deliver place) clear = deliver-case s place clear
 
 pub change : (s : State) (call : Call) → Change s call (applyOf s call)
 unfolding applyOf
 change s call = go (first (rulesOf s call)) (accepted-case s call)
   where
-    go : (o : Option ℕ) → (o ≡ none → Accepted s call (effectOf s call)) → Change s call (settled o (refused s) (effectOf s call))
+    go : (o : Option Reason) → (o ≡ none → Accepted s call (effectOf s call)) → Change s call (settled o (refused s) (effectOf s call))
     go none accepted = accepts (accepted refl)
     go (some n) accepted = refuses n refl

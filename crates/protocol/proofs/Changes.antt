@@ -7,6 +7,7 @@ use mathlib.Core.Bool.{true, false}
 use mathlib.Core.List.{List, [], _∷_, _++_}
 use Prim.Native.Nat.{ℕ, _<_}
 use lib.ListN.{length, set}
+use Rattle.refusal.specs.Code.{Reason}
 use Rattle.refusal.specs.Rules.{done}
 use Rattle.serial.specs.Serial.{inRange}
 use Rattle.interval.proofs.Laws.{Between}
@@ -21,15 +22,20 @@ use Rattle.node.specs.declared.Outcome.the-variants.{Created, Waiting, LeftAlon
 use Rattle.node.specs.Shape.{capacity}
 use Rattle.node.specs.Actions.{setR, setRAck, setRNak, setL, withStatus, created, joining, relinked, admitted, leftSet}
 use Rattle.protocol.specs.declared.Call.{Call}
-use Rattle.protocol.specs.declared.Call.the-variants.{Declare, Create, Join, Leave, Deliver}
+use Rattle.protocol.specs.declared.Order.the-variants.{Declare, Create, Join, Leave}
+use Rattle.protocol.specs.declared.Call.the-variants.{Order, Deliver}
 use Rattle.protocol.specs.declared.Reply.the-variants.{Stepped}
 use Rattle.protocol.specs.State.{State, queueLimit, nodeAt, statusAt, keyAt, leftAt, rightAt, noticeWaits}
 use Rattle.protocol.specs.Calls.{Result, refused, declaring, peerAt, messageAt}
 use Rattle.protocol.proofs.Waiting.{Taken}
 
--- node i stands as x, these messages wait, and this is the outcome
+-- node i stands as x, these messages wait, nothing was posted, and this is the outcome
 abbrev pub moved : State → ℕ → Node → List Message → Outcome → Result
-moved s i x ms o = record { state = record { nodes = set (s .nodes) i x; messages = ms }; said = done (Stepped o) }
+moved s i x ms o = record { state = record { nodes = set (s .nodes) i x; messages = ms }; posts = []; said = done (Stepped o) }
+
+-- the same, with messages posted behind those that wait
+abbrev pub sent : State → ℕ → Node → List Message → List Message → Outcome → Result
+sent s i x ms posts o = record { state = record { nodes = set (s .nodes) i x; messages = ms ++ posts }; posts = posts; said = done (Stepped o) }
 
 -- ---- what the tests of each call have shown where it is not refused
 pub record Declares (s : State) (key : ℕ) : Type 0 where
@@ -82,10 +88,10 @@ pub record Grants (s : State) (p e k : ℕ) : Type 0 where
 pub data Act (s : State) (m : Message) (rest : List Message) (r : Result) : Type 0 where
   drops : statusAt s (m .to) ≡ Out → r ≡ moved s (m .to) (nodeAt s (m .to)) rest Dropped → Act s m rest r
   lets-in : (v p e n k : ℕ) → m ≡ setR v p v e n → Grants s p e k → hasNext k ≡ true
-      → r ≡ moved s p (relinked (nodeAt s p) v n) (rest ++ setL p e v (nextSeq k) ∷ setRAck p v (nextSeq k) ∷ []) Granted → Act s m rest r
+      → r ≡ sent s p (relinked (nodeAt s p) v n) rest (setL p e v (nextSeq k) ∷ setRAck p v (nextSeq k) ∷ []) Granted → Act s m rest r
   lets-go : (v p new e n k : ℕ) → m ≡ setR v p new e n → new ≢ v → Grants s p e k
-      → r ≡ moved s p (relinked (nodeAt s p) new n) (rest ++ setL p new p n ∷ setRAck p v (cappedNext k) ∷ []) Granted → Act s m rest r
-  denies : (v p new e n : ℕ) → m ≡ setR v p new e n → statusAt s p ≢ Out → r ≡ moved s p (nodeAt s p) (rest ++ setRNak p v ∷ []) Denied → Act s m rest r
+      → r ≡ sent s p (relinked (nodeAt s p) new n) rest (setL p new p n ∷ setRAck p v (cappedNext k) ∷ []) Granted → Act s m rest r
+  denies : (v p new e n : ℕ) → m ≡ setR v p new e n → statusAt s p ≢ Out → r ≡ sent s p (nodeAt s p) rest (setRNak p v ∷ []) Denied → Act s m rest r
   joins : (p u n : ℕ) → m ≡ setRAck p u n → statusAt s u ≡ Ins → r ≡ moved s u (admitted (nodeAt s u) n) rest Joined → Act s m rest r
   goes : (p u n : ℕ) → m ≡ setRAck p u n → statusAt s u ≡ Del → r ≡ moved s u (withStatus Out (nodeAt s u)) rest Gone → Act s m rest r
   stays-out : (p u : ℕ) → m ≡ setRNak p u → statusAt s u ≡ Ins → r ≡ moved s u (withStatus Out (nodeAt s u)) rest JoinDenied → Act s m rest r
@@ -95,16 +101,16 @@ pub data Act (s : State) (m : Message) (rest : List Message) (r : Result) : Type
 
 -- ---- what a call does that is not refused
 pub data Accepted (s : State) (call : Call) (r : Result) : Type 0 where
-  declares : (key : ℕ) → call ≡ Declare key → Declares s key → r ≡ declaring s key → Accepted s call r
-  creates : (u : ℕ) → call ≡ Create u → Creates s u → r ≡ moved s u (created u (nodeAt s u)) (s .messages) Created → Accepted s call r
-  asks : (u p q : ℕ) → call ≡ Join u p q → Joins s u p q
-      → r ≡ moved s u (joining (nodeAt s u) (peerAt s p) (peerAt s q)) (s .messages ++ setR u p u q (nodeAt s u .lseq) ∷ []) Waiting → Accepted s call r
-  goes-alone : (u : ℕ) → call ≡ Leave u → LeavesAlone s u → r ≡ moved s u (withStatus Out (nodeAt s u)) (s .messages) LeftAlone → Accepted s call r
-  leaves : (u p q n : ℕ) → call ≡ Leave u → Leaves s u p q n
-      → r ≡ moved s u (withStatus Del (nodeAt s u)) (s .messages ++ setR u p q u (nextSeq n) ∷ []) Waiting → Accepted s call r
+  declares : (key : ℕ) → call ≡ Order (Declare key) → Declares s key → r ≡ declaring s key → Accepted s call r
+  creates : (u : ℕ) → call ≡ Order (Create u) → Creates s u → r ≡ moved s u (created u (nodeAt s u)) (s .messages) Created → Accepted s call r
+  asks : (u p q : ℕ) → call ≡ Order (Join u p q) → Joins s u p q
+      → r ≡ sent s u (joining (nodeAt s u) (peerAt s p) (peerAt s q)) (s .messages) (setR u p u q (nodeAt s u .lseq) ∷ []) Waiting → Accepted s call r
+  goes-alone : (u : ℕ) → call ≡ Order (Leave u) → LeavesAlone s u → r ≡ moved s u (withStatus Out (nodeAt s u)) (s .messages) LeftAlone → Accepted s call r
+  leaves : (u p q n : ℕ) → call ≡ Order (Leave u) → Leaves s u p q n
+      → r ≡ sent s u (withStatus Del (nodeAt s u)) (s .messages) (setR u p q u (nextSeq n) ∷ []) Waiting → Accepted s call r
   delivers : (place : ℕ) (m : Message) (rest : List Message) → call ≡ Deliver place → Delivers s place m rest → Act s m rest r → Accepted s call r
 
 -- ---- what a call does
 pub data Change (s : State) (call : Call) (r : Result) : Type 0 where
-  refuses : (n : ℕ) → r ≡ refused s n → Change s call r
+  refuses : (n : Reason) → r ≡ refused s n → Change s call r
   accepts : Accepted s call r → Change s call r

@@ -24,7 +24,8 @@ use Rattle.node.specs.declared.Kind.the-variants.{SetRAck, SetL}
 use Rattle.node.specs.declared.Node.{Node}
 use Rattle.node.specs.declared.Message.{Message}
 use Rattle.node.specs.Actions.{setR, setRAck, setL, relinked}
-use Rattle.protocol.specs.State.{isAck, isAckTo, isNotice, isRequest}
+use Rattle.protocol.specs.State.{isAckTo}
+use Rattle.node.specs.Tests.{isAck, isNotice, isRequest}
 use Rattle.protocol.proofs.Nodes.{At, unchanged}
 use Rattle.protocol.proofs.Waiting.{Taken, Dealt, apart, in-two, same-any, request-deals, ack-deals, only-dealing, no-ack, waits-for, acks-left}
 use Rattle.protocol.proofs.Fields.{statusOf, keyOf, leftOf, rightOf, lseqOf, rseqOf, kindOf, toOf}

@@ -17,7 +17,8 @@ use Rattle.sequence.specs.Sequence.{nextSeq, cappedNext}
 use Rattle.node.specs.declared.Status.the-variants.{Out, In, Del}
 use Rattle.node.specs.declared.Node.{Node}
 use Rattle.node.specs.declared.Message.{Message}
-use Rattle.node.specs.Shape.{isOut, isInOrDel, numbered, messageFits}
+use Rattle.node.specs.Shape.{messageFits}
+use Rattle.node.specs.Tests.{isOut, isInOrDel, numbered}
 use Rattle.node.specs.Actions.{setR, setRAck, setRNak, setL, withStatus, created, joining, relinked}
 use Rattle.node.proofs.FitLaws.{NodeFits, MessageFits, message-facts, PostsFit, message-fits, created-fits, joining-fits, out-fits, status-fits, admitted-fits, relinked-fits, left-set-fits}
 use Rattle.protocol.specs.declared.Call.{Call}

@@ -4,6 +4,7 @@ pub mod Facts
 pub mod Waiting
 pub mod Changes
 pub mod Cases
+pub mod AnswerLaws
 pub mod Refusals
 pub mod Moves
 pub mod Kept

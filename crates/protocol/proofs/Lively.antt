@@ -23,7 +23,8 @@ use Rattle.node.specs.Actions.{setR, setRAck, setRNak, setL}
 use Rattle.node.proofs.FitLaws.{message-facts}
 use Rattle.protocol.specs.declared.Call.{Call}
 use Rattle.protocol.specs.declared.Call.the-variants.{Deliver}
-use Rattle.protocol.specs.State.{State, queueLimit, nodeAt, statusAt, isRequest, isDealingOf, wellFormed}
+use Rattle.protocol.specs.State.{State, queueLimit, nodeAt, statusAt, isDealingOf, wellFormed}
+use Rattle.node.specs.Tests.{isRequest}
 use Rattle.protocol.specs.Calls.{Result, isFull, messageAt, wouldGrant, isGrantable, applyOf}
 use Rattle.protocol.specs.History.{accepted}
 use Rattle.protocol.specs.Claim.{Delivers, delivered, load, Lively, SteadyClaim}

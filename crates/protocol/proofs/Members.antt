@@ -12,20 +12,20 @@ use Rattle.truth.specs.Tests.{bit}
 use Rattle.truth.proofs.TestLaws.{is-true}
 use Rattle.truth.proofs.WordLaws.{word-fits, word-ones, word-bit, word-past}
 use Rattle.protocol.specs.State.{State, wellFormed, inserted}
-use Rattle.protocol.specs.Questions.{members}
+use Rattle.protocol.specs.Questions.{insertedWord, insertedCount}
 use Rattle.protocol.proofs.Facts.{formed}
 
 -- ---- each bit
-pub member-bit : (s : State) (u : ℕ) → u < length (s .nodes) → members s .word / 2 ^ u % 2 ≡ bit (inserted s u)
+pub member-bit : (s : State) (u : ℕ) → u < length (s .nodes) → insertedWord s / 2 ^ u % 2 ≡ bit (inserted s u)
 member-bit s u k = word-bit (length (s .nodes)) (inserted s) u k
 
-pub no-bit-past : (s : State) (u : ℕ) → length (s .nodes) ≤ u → members s .word / 2 ^ u % 2 ≡ 0
+pub no-bit-past : (s : State) (u : ℕ) → length (s .nodes) ≤ u → insertedWord s / 2 ^ u % 2 ≡ 0
 no-bit-past s u k = word-past (length (s .nodes)) (inserted s) u k
 
 -- ---- how many are inserted is the number of its ones
-pub size-is-ones : (s : State) → ones (members s .word) ≡ members s .size
+pub size-is-ones : (s : State) → ones (insertedWord s) ≡ insertedCount s
 size-is-ones s = word-ones (length (s .nodes)) (inserted s)
 
 -- ---- "one 32-bit word"
-pub word-fits-32 : (s : State) → T (wellFormed s) → members s .word < 2 ^ 32
+pub word-fits-32 : (s : State) → T (wellFormed s) → insertedWord s < 2 ^ 32
 word-fits-32 s w = lt-of-lt-of-le (word-fits (length (s .nodes)) (inserted s)) (pow-mono (formed s (is-true _ w) .few-nodes))

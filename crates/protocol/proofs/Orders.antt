@@ -21,7 +21,8 @@ use Rattle.node.specs.declared.Message.{Message}
 use Rattle.node.specs.declared.Peer.{Peer}
 use Rattle.node.specs.Shape.{declaredOf}
 use Rattle.node.specs.Actions.{setR, setRAck, setL, withStatus, joining}
-use Rattle.protocol.specs.State.{isAckTo, isNotice, isNoticeTo, isAck, dealings, isInserted}
+use Rattle.protocol.specs.State.{isAckTo, isNoticeTo, dealings, isInserted}
+use Rattle.node.specs.Tests.{isNotice, isAck}
 use Rattle.protocol.proofs.Nodes.{At, unchanged}
 use Rattle.protocol.proofs.Waiting.{Dealt, apart, in-one as in-posted, same-any, request-deals, not-ack, no-dealing}
 use Rattle.protocol.proofs.Fields.{statusOf, keyOf, leftOf, rightOf, lseqOf, rseqOf, kindOf, toOf, senderOf}

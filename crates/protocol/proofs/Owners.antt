@@ -13,7 +13,8 @@ use lib.Dec.{T}
 use borrow.Author.Tests.{lt-ltb, not-false}
 use Rattle.truth.proofs.Laws.{by-test}
 use Rattle.truth.proofs.TestLaws.{_∈_, holds, is-true, not-both}
-use Rattle.refusal.specs.Rules.{Coded, done, no, first, settled}
+use Rattle.refusal.specs.Code.{Reason, plain}
+use Rattle.refusal.specs.Rules.{done, no, first, settled}
 use Rattle.refusal.proofs.Laws.{cleared, Never, end, other, never}
 use Rattle.serial.specs.Serial.{inRange}
 use Rattle.interval.specs.Interval.{within}
@@ -26,10 +27,11 @@ use Rattle.links.proofs.Circuit.{linked-in, next-in}
 use Rattle.links.proofs.Owner.{KeyOwner, owner, reaches}
 use Rattle.node.specs.declared.Link.{Link}
 use Rattle.node.specs.declared.Link.the-variants.{To}
+use Rattle.protocol.specs.declared.Reply.the-variants.{Owner}
 use Rattle.protocol.specs.State.{State, declared, nodeAt, keyAt, rightAt, wellFormed, inserted}
 use Rattle.protocol.specs.History.{history}
 use Rattle.protocol.specs.Claim.{Inserted}
-use Rattle.protocol.specs.Questions.{Owner, ownerAt, ownerFrom, ownerRules, ownerOf}
+use Rattle.protocol.specs.Questions.{Walk, found, walked, ownerAt, ownerFrom, ownerRules, ownerOf}
 use Rattle.protocol.specs.FurtherClaims.{FindsOwner, OwnerClaim, AlwaysFound}
 use Rattle.protocol.proofs.Nodes.{declared-unless-out}
 use Rattle.protocol.proofs.Facts.{tested}
@@ -38,16 +40,16 @@ use Rattle.protocol.proofs.Theorem.{good, listed-inserted}
 
 -- ---- the search follows the walk
 -- asked at u, with some hops made, the search says m; and the hops that it added are moves from u to m
-record Finds (s : State) (m u hops : ℕ) (said : Coded Owner) : Type 0 where
+record Finds (s : State) (m u hops : ℕ) (walk : Walk) : Type 0 where
   added : ℕ
   reached : after (rightAt s) u added ≡ m
-  answer : said ≡ done (record { node = m; hops = added + hops })
+  answer : walk ≡ found m (added + hops)
 
 module _ (s : State) (serial : ℕ) {L : List ℕ} (ring : Ring (keyAt s) (rightAt s) L) (o : KeyOwner (keyAt s) (rightAt s) serial L) where
   -- the search is at u, whose right link leads to q
   module _ {u q : ℕ} (link : rightAt s u ≡ To q) where
     -- where the test holds, u is the owner
-    stops : (hops : ℕ) → u ∈ L → within (keyAt s u) (keyAt s q) serial ≡ true → Finds s (o .node) u hops (done (record { node = u; hops = hops }))
+    stops : (hops : ℕ) → u ∈ L → within (keyAt s u) (keyAt s q) serial ≡ true → Finds s (o .node) u hops (found u hops)
     stops hops i t =
         let e = o .only u i (record { next = q; link = link; within = within-iff (keyAt s u) (keyAt s q) serial .0 (holds t) }) in
         record { added = 0; reached = e; answer = let none-added : hops ≡ 0 + hops = omega arith in cc }
@@ -59,7 +61,7 @@ module _ (s : State) (serial : ℕ) {L : List ℕ} (ring : Ring (keyAt s) (right
         not-both (is-true _ (within-iff (keyAt s u) (keyAt s q) serial .1 inside)) f
 
     -- what is found from q on, is found from u on with a hop more
-    goes-on : {hops : ℕ} {said : Coded Owner} → Finds s (o .node) q (suc hops) said → Finds s (o .node) u hops said
+    goes-on : {hops : ℕ} {walk : Walk} → Finds s (o .node) q (suc hops) walk → Finds s (o .node) u hops walk
     goes-on {hops} f = record {
       added = suc (f .added);
       reached = rw (move-to (rightAt s) link) (f .reached);
@@ -87,7 +89,7 @@ unfolding inserted
 inserted-declared s u t = declared-unless-out s u (member-not-out (nodeAt s) (s .messages) u (is-true _ t))
 
 none-refuses : (s : State) (start serial : ℕ) → wellFormed s ≡ true → declared s start ≡ true → inRange serial ≡ true → inserted s start ≡ true
-    → ownerOf s start serial ≡ ownerFrom s serial (length (s .nodes)) start 0
+    → ownerOf s start serial ≡ walked (ownerFrom s serial (length (s .nodes)) start 0)
 unfolding ownerOf
 none-refuses s start serial formed known ranged member = simp (formed, known, ranged, member)
 
@@ -105,8 +107,9 @@ module _ (s : State) (formed : T (wellFormed s)) {L : List ℕ} (ring : Ring (ke
       let known = lt-ltb start (length (s .nodes)) (inserted-declared s start t) in
       let clear = none-refuses s start serial (is-true _ formed) known (is-true _ ranged) (is-true _ t) in
       record {
-        owner = record { node = o .node; hops = f .added };
-        answer = let all-added : f .added + 0 ≡ f .added = omega arith in cc;
+        node = o .node;
+        hops = f .added;
+        answer = let all-added : f .added + 0 ≡ f .added = omega arith in clear ∙ ap walked (f .answer) ∙ ap (λ (k : ℕ). done (Owner (o .node) k)) all-added;
         owns = record {
           inserted = member (o .node) .0 (o .member);
           next = o .owns .next;
@@ -134,9 +137,9 @@ always-found calls start serial e = go (first (ownerRules s start serial)) refl 
     never-31 : Never 31 (ownerRules s start serial)
     never-31 = other refl (λ _. other refl (λ _. other refl (λ _. other refl (λ _. end))))
 
-    go : (o : Option ℕ) → first (ownerRules s start serial) ≡ o → settled o no (ownerFrom s serial (length (s .nodes)) start 0) ≡ no 31 → ⊥
+    go : (o : Option Reason) → first (ownerRules s start serial) ≡ o → settled o no (walked (ownerFrom s serial (length (s .nodes)) start 0)) ≡ no (plain 31) → ⊥
     go none clear f =
         let (_, (_, (ranged, (member, _)))) = cleared (ownerRules s start serial) clear in
-        let found = owner-found calls start serial (holds (not-false (inserted s start) member)) (holds (not-false (inRange serial) ranged)) in
-        let z : _≡_ {A = ℕ} 0 1 = cc (found .answer) in omega arith
-    go (some n) refuses f = let same : n ≡ 31 = cc in never never-31 (refuses ∙ ap some same)
+        let finds = owner-found calls start serial (holds (not-false (inserted s start) member)) (holds (not-false (inRange serial) ranged)) in
+        let z : _≡_ {A = ℕ} 0 1 = cc (finds .answer) in omega arith
+    go (some n) refuses f = let same : n ≡ plain 31 = cc in never never-31 (refuses ∙ ap some same)

@@ -1,82 +1,83 @@
--- A message that was posted waits or has been delivered: a call that is accepted adds its posts to what waits, and a delivery takes one
--- message before. So what calls post is known from what waits before and after them. Assumes nothing.
-use mathlib.Core.Path.{_≡_, refl, ap}
-use mathlib.Core.Logic.{⊎-elim}
-use mathlib.Core.Bool.{true, false}
+-- What calls post: each two messages at most, and none where it is refused, which also leaves the network as it was; and the posts of
+-- deliveries one after the other. Assumes nothing.
+use mathlib.Core.Path.{_≡_, refl, ap, _∙_}
+use mathlib.Core.Bool.{false, not}
 use mathlib.Core.List.{List, [], _∷_, _++_, map}
 use mathlib.Core.Option.{Option, none, some}
-use Prim.Native.Nat.{ℕ, _+_}
+use Prim.Native.Nat.{ℕ, _+_, _*_, _≤_}
 use native.Mathlib.Omega.{arith}
 use lib.ListN.{length, length-append}
-use Rattle.truth.specs.Tests.{bit}
-use Rattle.truth.proofs.TestLaws.{decided, is-true, not-both, bit-true, bit-false}
-use Rattle.refusal.specs.Rules.{no, first, settled}
-use Rattle.refusal.proofs.Laws.{cleared}
-use Rattle.node.specs.Actions.{createOf, joinOf, leaveOf}
+use lib.Dec.{T}
+use Rattle.refusal.specs.Code.{Reason}
+use Rattle.refusal.specs.Rules.{no, _when_, first, settled}
+use Rattle.node.specs.declared.Message.{Message}
 use Rattle.protocol.specs.declared.Call.{Call}
-use Rattle.protocol.specs.declared.Call.the-variants.{Declare, Create, Join, Leave, Deliver}
-use Rattle.protocol.specs.State.{State, nodeAt}
-use Rattle.protocol.specs.Calls.{refused, peerAt, messageAt, without, deliverRules, receiving, rulesOf, effectOf, applyOf}
-use Rattle.protocol.specs.History.{accepted, History, advanced, run}
-use Rattle.protocol.specs.Claim.{delivered}
-use Rattle.protocol.specs.Drain.{deliverAll}
-use Rattle.protocol.specs.Posts.{stepPosts, postsOf, posted, takes}
-use Rattle.protocol.proofs.Waiting.{taken}
-use Rattle.protocol.proofs.Cases.{tested-below, accepted-case}
+use Rattle.protocol.specs.declared.Call.the-variants.{Deliver}
+use Rattle.protocol.specs.State.{State, wellFormed}
+use Rattle.protocol.specs.Calls.{Result, refused, applyOf}
+use Rattle.protocol.specs.History.{History, advanced, run, posted}
+use Rattle.protocol.specs.Drain.{afterDelivery, places, postsOfAll, drained, drainOf}
+use Rattle.protocol.proofs.Changes.{Act, drops, lets-in, lets-go, denies, joins, goes, stays-out, stays-in, takes, ignores}
+use Rattle.protocol.proofs.Changes.{declares, creates, asks, goes-alone, leaves, delivers, Change, refuses, accepts}
+use Rattle.protocol.proofs.Cases.{change}
 use Rattle.protocol.proofs.Refusals.{accepted-said}
 
--- ---- where no rule refuses, a call takes what it takes and adds its posts
-step-adds : (s : State) (call : Call) → first (rulesOf s call) ≡ none
-    → takes call + length (effectOf s call .state .messages) ≡ length (s .messages) + length (stepPosts s call)
-step-adds s (Declare key) clear = omega arith
-step-adds s (Create u) clear = omega (arith, length-append (s .messages) (createOf u (nodeAt s u) .posts))
-step-adds s (Join u p q) clear = omega (arith, length-append (s .messages) (joinOf u (nodeAt s u) (peerAt s p) (peerAt s q) .posts))
-step-adds s (Leave u) clear = omega (arith, length-append (s .messages) (leaveOf u (nodeAt s u) .posts))
-step-adds s (Deliver place) clear =
-    let (_, (_, (absent, _))) = cleared (deliverRules s place) clear in
-    omega (
-      arith,
-      length-append (without place (s .messages)) (receiving s (messageAt s place) .posts),
-      taken s place (tested-below place (length (s .messages)) absent) .shorter,
-    )
+-- ---- two messages at most
+act-posts : {s : State} {m : Message} {rest : List Message} {r : Result} → Act s m rest r → length (r .posts) ≤ 2
+act-posts (drops e er) = rw er (omega arith)
+act-posts (lets-in v p e n k em g room er) = rw er (omega arith)
+act-posts (lets-go v p new e n k em d g er) = rw er (omega arith)
+act-posts (denies v p new e n em o er) = rw er (omega arith)
+act-posts (joins p u n em e er) = rw er (omega arith)
+act-posts (goes p u n em e er) = rw er (omega arith)
+act-posts (stays-out p u em e er) = rw er (omega arith)
+act-posts (stays-in p u em e er) = rw er (omega arith)
+act-posts (takes p u a n em o new er) = rw er (omega arith)
+act-posts (ignores p u a n em o old er) = rw er (omega arith)
 
-module _ (s : State) (call : Call) where
-  -- ---- a call that is accepted
-  pub accepted-adds : accepted (applyOf s call .said) ≡ true → takes call + length (applyOf s call .state .messages) ≡ length (s .messages) + posted s (call ∷ [])
-  unfolding applyOf postsOf
-  accepted-adds = go (first (rulesOf s call)) (step-adds s call)
-    where
-      go : (o : Option ℕ) → (o ≡ none → takes call + length (effectOf s call .state .messages) ≡ length (s .messages) + length (stepPosts s call))
-          → accepted (settled o (refused s) (effectOf s call) .said) ≡ true
-          → takes call + length (settled o (refused s) (effectOf s call) .state .messages) ≡ length (s .messages) + (length (settled o (λ n. []) (stepPosts s call)) + 0)
-      go none adds e = omega (arith, adds refl)
-      go (some n) adds e = absurd (not-both e refl)
+change-posts : {s : State} {call : Call} {r : Result} → Change s call r → length (r .posts) ≤ 2
+change-posts (refuses n er) = rw er (omega arith)
+change-posts (accepts (declares key ec h er)) = rw er (omega arith)
+change-posts (accepts (creates u ec h er)) = rw er (omega arith)
+change-posts (accepts (asks u p q ec h er)) = rw er (omega arith)
+change-posts (accepts (goes-alone u ec h er)) = rw er (omega arith)
+change-posts (accepts (leaves u p q n ec h er)) = rw er (omega arith)
+change-posts (accepts (delivers place m rest ec h act)) = act-posts act
 
-  -- ---- a call that is refused
-  pub refused-adds : accepted (applyOf s call .said) ≡ false → (applyOf s call .state ≡ s) × (posted s (call ∷ []) ≡ 0)
-  unfolding applyOf postsOf
-  refused-adds = go (first (rulesOf s call)) (λ clear. is-true _ (accepted-said (accepted-case s call clear)))
-    where
-      go : (o : Option ℕ) → (o ≡ none → accepted (effectOf s call .said) ≡ true) → accepted (settled o (refused s) (effectOf s call) .said) ≡ false
-          → (settled o (refused s) (effectOf s call) .state ≡ s) × (length (settled o (λ n. []) (stepPosts s call)) + 0 ≡ 0)
-      go none says e = absurd (not-both (says refl) e)
-      go (some n) says e = (refl, refl)
+pub few-posts : (s : State) (call : Call) → length (applyOf s call .posts) ≤ 2
+few-posts s call = change-posts (change s call)
 
-  pub refused-posts : (n : ℕ) → applyOf s call .said ≡ no n → posted s (call ∷ []) ≡ 0
-  refused-posts n e = refused-adds (ap accepted e) .1
+-- ---- a refusal leaves the network as it was, and posts nothing
+pub refused-same : (s : State) (call : Call) (r : Reason) → applyOf s call .said ≡ no r → applyOf s call ≡ refused s r
+refused-same s call r e = go (change s call) e
+  where
+    go : {x : Result} → Change s call x → x .said ≡ no r → x ≡ refused s r
+    go (refuses n er) f = let same : n ≡ r = cc in er ∙ ap (refused s) same
+    go (accepts a) f = let t : T false = rw f at (accepted-said a) in absurd t
+
+pub drain-refused-same : (s : State) (budget : ℕ) (r : Reason) → drainOf s budget .said ≡ no r → drainOf s budget ≡ refused s r
+unfolding drainOf
+drain-refused-same s budget r e = go (first ((6 when not (wellFormed s)) ∷ [])) e
+  where
+    go : (o : Option Reason) → settled o (refused s) (drained s (places budget s)) .said ≡ no r → settled o (refused s) (drained s (places budget s)) ≡ refused s r
+    go none f = let z : _≡_ {A = ℕ} 0 1 = cc in absurd (omega arith)
+    go (some n) f = let same : n ≡ r = cc in ap (refused s) same
 
 -- ---- deliveries one after the other
-delivery-takes : (s : State) (place : ℕ)
-    → bit (accepted (applyOf s (Deliver place) .said)) + length (applyOf s (Deliver place) .state .messages) ≡ length (s .messages) + posted s (Deliver place ∷ [])
-delivery-takes s place =
-    ⊎-elim
-    (λ t. omega (arith, bit-true t, accepted-adds s (Deliver place) t))
-    (λ f. let (same, nothing) = refused-adds s (Deliver place) f in omega (arith, bit-false f, nothing, ap (λ (r : State). length (r .messages)) same))
-    (decided (accepted (applyOf s (Deliver place) .said)))
+pub posts-of-all : (s : State) (places : List ℕ) → length (postsOfAll s places) ≡ posted s (map Deliver places)
+posts-of-all s [] = refl
+posts-of-all s (place ∷ places) =
+    omega (arith, length-append (applyOf s (Deliver place) .posts) (postsOfAll (afterDelivery s place) places), posts-of-all (afterDelivery s place) places)
 
-pub deliveries-take : (s : State) (places : List ℕ) → delivered s places + length (deliverAll s places .messages) ≡ length (s .messages) + posted s (map Deliver places)
-deliveries-take s [] = omega arith
-deliveries-take s (place ∷ places) = omega (arith, delivery-takes s place, deliveries-take (applyOf s (Deliver place) .state) places)
+pub few-posts-of-all : (s : State) (places : List ℕ) → length (postsOfAll s places) ≤ 2 * length places
+few-posts-of-all s [] = omega arith
+few-posts-of-all s (place ∷ places) =
+    omega (
+      arith,
+      length-append (applyOf s (Deliver place) .posts) (postsOfAll (afterDelivery s place) places),
+      few-posts s (Deliver place),
+      few-posts-of-all (afterDelivery s place) places,
+    )
 
 -- ---- more calls post so many more
 pub posted-append : (h : History) (calls more : List Call) → posted (h .state) (calls ++ more) ≡ posted (h .state) calls + posted (run h calls .state) more

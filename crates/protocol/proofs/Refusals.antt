@@ -1,23 +1,27 @@
 -- Refusal 6 is given exactly where the network is not well formed: a node's own rule 6, which a step carries, never refuses in a
--- well-formed network. And whatever is not refused is accepted. Assumes nothing.
+-- well-formed network. A call never says 31. And whatever is not refused is accepted. Assumes nothing.
 use mathlib.Core.Path.{_≡_, refl, ap, _∙_}
 use mathlib.Core.Logic.{⊎-elim, _↔_}
 use mathlib.Core.Bool.{true, false, not, _&&_}
 use mathlib.Core.List.{List}
 use mathlib.Core.Option.{Option, none, some}
 use Prim.Native.Nat.{ℕ}
+use native.Mathlib.Omega.{arith}
 use lib.ListN.{length}
 use lib.Dec.{T}
 use Rattle.truth.proofs.TestLaws.{decided}
+use Rattle.refusal.specs.Code.{Reason, plain}
 use Rattle.refusal.specs.Rules.{no, first, settled}
 use Rattle.refusal.proofs.Laws.{Never, end, other, fails, never}
 use Rattle.node.specs.declared.Message.{Message}
 use Rattle.node.specs.Shape.{wellFormed as nodeIsSound, peerFits}
 use Rattle.node.proofs.FitLaws.{well-formed-among, peer-among}
 use Rattle.protocol.specs.declared.Call.{Call}
-use Rattle.protocol.specs.declared.Call.the-variants.{Declare, Create, Join, Leave, Deliver}
+use Rattle.protocol.specs.declared.Order.the-variants.{Declare, Create, Join, Leave}
+use Rattle.protocol.specs.declared.Call.the-variants.{Order, Deliver}
 use Rattle.protocol.specs.State.{State, declared, nodeAt, wellFormed}
 use Rattle.protocol.specs.Calls.{Result, refused, peerAt, rulesOf, effectOf, applyOf}
+use Rattle.protocol.specs.Questions.{Walk, found, lost, walked, ownerFrom, ownerRules, ownerOf}
 use Rattle.protocol.specs.History.{accepted}
 use Rattle.protocol.proofs.Facts.{WellFormed, formed, tested}
 use Rattle.protocol.proofs.Cases.{tested-below, accepted-case}
@@ -57,29 +61,64 @@ module _ (s : State) (w : WellFormed s) where
   peer-sound p known = let k = tested-below p (length (s .nodes)) known in peer-among (w .few-nodes) (peerAt s p) k (w .node p k .key)
 
   never-six : (call : Call) → Never 6 (rulesOf s call)
-  never-six (Declare key) = fails sound (other refl (λ _. other refl (λ _. other refl (λ _. end))))
-  never-six (Create u) = fails sound (other refl (λ _. other refl (λ _. other refl (λ _. end))))
-  never-six (Join u p q) =
+  never-six (Order (Declare key)) = fails sound (other refl (λ _. other refl (λ _. other refl (λ _. end))))
+  never-six (Order (Create u)) = fails sound (other refl (λ _. other refl (λ _. other refl (λ _. end))))
+  never-six (Order (Join u p q)) =
       fails sound (other refl (λ known. other refl (λ left. other refl (λ right. fails (step known left right) (other refl (λ _. other refl (λ _. other refl (λ _. other refl (λ _. end)))))))))
     where
       step : not (declared s u) ≡ false → not (declared s p) ≡ false → not (declared s q) ≡ false
           → not (nodeIsSound u (nodeAt s u) && (peerFits (peerAt s p) && peerFits (peerAt s q))) ≡ false
       step known left right = rw (node-sound u known, peer-sound p left, peer-sound q right)
-  never-six (Leave u) = fails sound (other refl (λ known. fails (ap not (node-sound u known)) (other refl (λ _. other refl (λ _. other refl (λ _. end))))))
+  never-six (Order (Leave u)) = fails sound (other refl (λ known. fails (ap not (node-sound u known)) (other refl (λ _. other refl (λ _. other refl (λ _. end))))))
   never-six (Deliver place) = fails sound (other refl (λ _. other refl (λ _. end)))
 
+-- ---- a number that no rule of a call gives is not said
+pub never-said : (s : State) (call : Call) {n : ℕ} → Never n (rulesOf s call) → ¬ (applyOf s call .said ≡ no (plain n))
+unfolding applyOf
+never-said s call {n} t e = go (first (rulesOf s call)) refl e
+  where
+    go : (o : Option Reason) → first (rulesOf s call) ≡ o → ¬ (settled o (refused s) (effectOf s call) .said ≡ no (plain n))
+    go none clear f = let u : T false = rw f at (accepted-said (accepted-case s call clear)) in u
+    go (some r) refuses f = let same : r ≡ plain n = cc in never t (refuses ∙ ap some same)
+
+-- 31 is a question's
+pub calls-never-31 : (s : State) (call : Call) → ¬ (applyOf s call .said ≡ no (plain 31))
+calls-never-31 s call = never-said s call (rules call)
+  where
+    rules : (call : Call) → Never 31 (rulesOf s call)
+    rules (Order (Declare key)) = other refl (λ _. other refl (λ _. other refl (λ _. other refl (λ _. end))))
+    rules (Order (Create u)) = other refl (λ _. other refl (λ _. other refl (λ _. other refl (λ _. end))))
+    rules (Order (Join u p q)) =
+        other refl (λ _. other refl (λ _. other refl (λ _. other refl (λ _. other refl (λ _. other refl (λ _. other refl (λ _. other refl (λ _. other refl (λ _. end)))))))))
+    rules (Order (Leave u)) = other refl (λ _. other refl (λ _. other refl (λ _. other refl (λ _. other refl (λ _. other refl (λ _. end))))))
+    rules (Deliver place) = other refl (λ _. other refl (λ _. other refl (λ _. end)))
+
 -- ---- so 6 says that the network is not well formed, and nothing else
-first-six : (s : State) (call : Call) → wellFormed s ≡ false → first (rulesOf s call) ≡ some 6
-first-six s (Declare key) e = rw e
-first-six s (Create u) e = rw e
-first-six s (Join u p q) e = rw e
-first-six s (Leave u) e = rw e
+first-six : (s : State) (call : Call) → wellFormed s ≡ false → first (rulesOf s call) ≡ some (plain 6)
+first-six s (Order (Declare key)) e = rw e
+first-six s (Order (Create u)) e = rw e
+first-six s (Order (Join u p q)) e = rw e
+first-six s (Order (Leave u)) e = rw e
 first-six s (Deliver place) e = rw e
 
-pub six : (s : State) (call : Call) → (applyOf s call .said ≡ no 6) ↔ (wellFormed s ≡ false)
+pub six : (s : State) (call : Call) → (applyOf s call .said ≡ no (plain 6)) ↔ (wellFormed s ≡ false)
 unfolding applyOf
-six s call = (λ e. ⊎-elim (λ t. absurd (go (formed s t) (first (rulesOf s call)) refl e)) (λ f. f) (decided (wellFormed s)), λ f. rw (first-six s call f))
+six s call = (λ e. ⊎-elim (λ t. absurd (never-said s call (never-six s (formed s t) call) e)) (λ f. f) (decided (wellFormed s)), λ f. rw (first-six s call f))
+
+-- ---- nor is 6 said to a question for an owner of a well-formed network
+pub owner-never-six : (s : State) → WellFormed s → (start serial : ℕ) → ¬ (ownerOf s start serial ≡ no (plain 6))
+unfolding ownerOf
+owner-never-six s w start serial e = go (first (ownerRules s start serial)) refl e
   where
-    go : WellFormed s → (o : Option ℕ) → first (rulesOf s call) ≡ o → settled o (refused s) (effectOf s call) .said ≡ no 6 → ⊥
-    go w none clear e = let t : T false = rw e at (accepted-said (accepted-case s call clear)) in t
-    go w (some n) refuses e = let same : n ≡ 6 = cc in never (never-six s w call) (refuses ∙ ap some same)
+    rules : Never 6 (ownerRules s start serial)
+    rules = fails (sound s w) (other refl (λ _. other refl (λ _. other refl (λ _. end))))
+
+    walk : (x : Walk) → ¬ (walked x ≡ no (plain 6))
+    walk (found u hops) f = let z : _≡_ {A = ℕ} 0 1 = cc in omega arith
+    walk lost f = let z : _≡_ {A = ℕ} 31 6 = cc in omega arith
+
+    go : (o : Option Reason) → first (ownerRules s start serial) ≡ o → ¬ (settled o no (walked (ownerFrom s serial (length (s .nodes)) start 0)) ≡ no (plain 6))
+    go none clear f = walk (ownerFrom s serial (length (s .nodes)) start 0) f
+    go (some r) refuses f =
+        let same : r ≡ plain 6 = cc in
+        never rules (refuses ∙ ap some same)

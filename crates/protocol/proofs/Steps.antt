@@ -13,17 +13,19 @@ use borrow.Author.Tests.{ltb-true, eq-eqb, ne-eqb}
 use Rattle.truth.specs.Tests.{count}
 use Rattle.truth.proofs.Laws.{both}
 use Rattle.truth.proofs.TestLaws.{_∈_}
+use Rattle.refusal.specs.Code.{Reason}
 use Rattle.refusal.specs.Rules.{done, no as refusal}
 use Rattle.sequence.specs.Sequence.{nextSeq, cappedNext}
 use Rattle.node.specs.declared.Status.the-variants.{Out, Del}
 use Rattle.node.specs.declared.Seq.the-variants.{Is}
 use Rattle.node.specs.declared.Message.{Message}
 use Rattle.node.specs.declared.Outcome.the-variants.{Granted}
-use Rattle.node.specs.Shape.{isInOrDel}
-use Rattle.node.specs.Actions.{setR, seqOf}
+use Rattle.node.specs.Tests.{isInOrDel, seqOf}
+use Rattle.node.specs.Actions.{setR}
 use Rattle.node.proofs.FitLaws.{message-facts, number-named}
 use Rattle.protocol.specs.declared.Call.{Call}
-use Rattle.protocol.specs.declared.Call.the-variants.{Declare, Create, Join, Leave, Deliver}
+use Rattle.protocol.specs.declared.Order.the-variants.{Declare, Create, Join, Leave}
+use Rattle.protocol.specs.declared.Call.the-variants.{Order, Deliver}
 use Rattle.protocol.specs.declared.Reply.the-variants.{Stepped}
 use Rattle.protocol.specs.State.{State, nodeAt, statusAt, isDealingOf, dealings}
 use Rattle.protocol.specs.Calls.{Result, messageAt, peerAt}
@@ -65,18 +67,18 @@ put-own f u b = rw (eq-eqb u u refl)
 put-other : (f : ℕ → Bool) (u : ℕ) (b : Bool) (v : ℕ) → v ≢ u → put f u b v ≡ f v
 put-other f u b v d = rw (ne-eqb v u d)
 
-told-refused : (h : History) (call : Call) (n : ℕ) → toldAfter h call (refusal n) ≡ h .told
-told-refused h (Declare key) n = refl
-told-refused h (Create u) n = refl
-told-refused h (Join u p q) n = refl
-told-refused h (Leave u) n = refl
+told-refused : (h : History) (call : Call) (n : Reason) → toldAfter h call (refusal n) ≡ h .told
+told-refused h (Order (Declare key)) n = refl
+told-refused h (Order (Create u)) n = refl
+told-refused h (Order (Join u p q)) n = refl
+told-refused h (Order (Leave u)) n = refl
 told-refused h (Deliver place) n = refl
 
-joins-refused : (h : History) (call : Call) (n : ℕ) → joinsAfter h call (refusal n) ≡ h .joins
-joins-refused h (Declare key) n = refl
-joins-refused h (Create u) n = refl
-joins-refused h (Join u p q) n = refl
-joins-refused h (Leave u) n = refl
+joins-refused : (h : History) (call : Call) (n : Reason) → joinsAfter h call (refusal n) ≡ h .joins
+joins-refused h (Order (Declare key)) n = refl
+joins-refused h (Order (Create u)) n = refl
+joins-refused h (Order (Join u p q)) n = refl
+joins-refused h (Order (Leave u)) n = refl
 joins-refused h (Deliver place) n = refl
 
 -- ---- each call keeps the invariant

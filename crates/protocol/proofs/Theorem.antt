@@ -21,8 +21,8 @@ use Rattle.node.specs.declared.Link.the-variants.{To}
 use Rattle.node.specs.declared.Kind.{Kind}
 use Rattle.node.specs.declared.Kind.the-variants.{SetR, SetRAck, SetRNak, SetL}
 use Rattle.node.specs.declared.Message.{Message}
-use Rattle.node.specs.Shape.{isInOrDel}
-use Rattle.node.specs.Actions.{setRAck, seqOf}
+use Rattle.node.specs.Tests.{isInOrDel, seqOf}
+use Rattle.node.specs.Actions.{setRAck}
 use Rattle.node.proofs.FitLaws.{number-named}
 use Rattle.protocol.specs.declared.Call.{Call}
 use Rattle.protocol.specs.State.{State, nodeAt, statusAt, leftAt, rightAt, isAckTo, isNoticeTo, dealings, noticeWaits, isInserted, inserted}

@@ -7,6 +7,7 @@ use mathlib.Core.List.{List, [], _∷_, _++_}
 use lib.ListN.{length, getD, set, take, drop}
 use lib.Dec.{ltb, eqb}
 use Rattle.truth.specs.Tests.{everyBelow}
+use Rattle.refusal.specs.Code.{Reason}
 use Rattle.refusal.specs.Rules.{Coded, done, no, Rule, _when_, ruled}
 use Rattle.serial.specs.Serial.{inRange}
 use Rattle.node.specs.declared.Node.{Node}
@@ -15,31 +16,38 @@ use Rattle.node.specs.declared.Kind.the-variants.{SetR, SetRAck, SetRNak, SetL}
 use Rattle.node.specs.declared.Message.{Message}
 use Rattle.node.specs.declared.Peer.{Peer}
 use Rattle.node.specs.declared.Outcome.{Outcome}
-use Rattle.node.specs.Shape.{declaredOf, isOut, capacity}
+use Rattle.node.specs.Shape.{declaredOf, capacity}
+use Rattle.node.specs.Tests.{isOut}
 use Rattle.node.specs.Actions.{Effect, setRNak, createOf, joinRules as joinStepRules, joinOf, alone, leaveRules as leaveStepRules, leaveOf, grants, receiveOf}
 use Rattle.protocol.specs.declared.Call.{Call}
-use Rattle.protocol.specs.declared.Call.the-variants.{Declare, Create, Join, Leave, Deliver}
+use Rattle.protocol.specs.declared.Order.the-variants.{Declare, Create, Join, Leave}
+use Rattle.protocol.specs.declared.Call.the-variants.{Order, Deliver}
 use Rattle.protocol.specs.declared.Reply.{Reply}
 use Rattle.protocol.specs.declared.Reply.the-variants.{Declared, Stepped}
 use Rattle.protocol.specs.State.{State, queueLimit, declared, nodeAt, statusAt, keyAt, noticeWaits, wellFormed}
 
--- ---- what a call comes to: the network left behind, and an answer or the number of a refusal
+-- ---- what a call comes to: the network left behind, the messages posted in their order, and an answer or the reason of a refusal
 pub record Result : Type 0 where
   pub state : State
+  pub posts : List Message
   pub said : Coded Reply
 
 -- "It carries only its number; bench or floor come back equal, nothing is posted."
-abbrev pub refused : State → ℕ → Result
-refused s n = record { state = s; said = no n }
+abbrev pub refused : State → Reason → Result
+refused s r = record { state = s; posts = []; said = no r }
 
 -- what the network says of a node's step
 abbrev pub stepped : Coded Outcome → Coded Reply
 stepped (done o) = done (Stepped o)
-stepped (no n) = no n
+stepped (no r) = no r
 
 -- node u steps, while `messages` wait: it stands in its place as the step leaves it, and its posts are added at the end
 abbrev pub commit : State → ℕ → List Message → Effect → Result
-commit s u messages e = record { state = record { nodes = set (s .nodes) u (e .node); messages = messages ++ e .posts }; said = stepped (e .said) }
+commit s u messages e = record {
+  state = record { nodes = set (s .nodes) u (e .node); messages = messages ++ e .posts };
+  posts = e .posts;
+  said = stepped (e .said);
+}
 
 abbrev pub isFull : State → Bool
 isFull s = not (ltb (length (s .messages)) queueLimit)
@@ -61,6 +69,7 @@ declareRules s key =
 abbrev pub declaring : State → ℕ → Result
 declaring s key = record {
   state = record { nodes = s .nodes ++ (declaredOf key ∷ []); messages = s .messages };
+  posts = [];
   said = done (Declared (length (s .nodes)) key);
 }
 
@@ -150,17 +159,17 @@ delivering s place = commit s (messageAt s place .to) (without place (s .message
 
 -- ---- any call
 abbrev pub rulesOf : State → Call → List Rule
-rulesOf s (Declare key) = declareRules s key
-rulesOf s (Create u) = createRules s u
-rulesOf s (Join u p q) = joinRules s u p q
-rulesOf s (Leave u) = leaveRules s u
+rulesOf s (Order (Declare key)) = declareRules s key
+rulesOf s (Order (Create u)) = createRules s u
+rulesOf s (Order (Join u p q)) = joinRules s u p q
+rulesOf s (Order (Leave u)) = leaveRules s u
 rulesOf s (Deliver place) = deliverRules s place
 
 abbrev pub effectOf : State → Call → Result
-effectOf s (Declare key) = declaring s key
-effectOf s (Create u) = creating s u
-effectOf s (Join u p q) = joining s u p q
-effectOf s (Leave u) = leaving s u
+effectOf s (Order (Declare key)) = declaring s key
+effectOf s (Order (Create u)) = creating s u
+effectOf s (Order (Join u p q)) = joining s u p q
+effectOf s (Order (Leave u)) = leaving s u
 effectOf s (Deliver place) = delivering s place
 
 -- "A refusal is given where its condition holds and no earlier one does, and at no other time."

@@ -12,7 +12,8 @@ use Rattle.node.specs.declared.Link.the-variants.{To}
 use Rattle.node.specs.declared.Message.{Message}
 use Rattle.protocol.specs.declared.Call.{Call}
 use Rattle.protocol.specs.declared.Call.the-variants.{Deliver}
-use Rattle.protocol.specs.State.{State, keyAt, leftAt, rightAt, isRequest, noticeWaits, wellFormed, numbersFit, inserted}
+use Rattle.protocol.specs.State.{State, keyAt, leftAt, rightAt, noticeWaits, wellFormed, numbersFit, inserted}
+use Rattle.node.specs.Tests.{isRequest}
 use Rattle.protocol.specs.Calls.{applyOf}
 use Rattle.protocol.specs.History.{accepted, History, history}
 

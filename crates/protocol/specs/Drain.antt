@@ -2,13 +2,15 @@
 -- nothing waits or a budget is spent. Definitions only.
 use Prim.Native.Nat.{ℕ, zero, suc}
 use mathlib.Core.Bool.{not, cond}
-use mathlib.Core.List.{List, [], _∷_}
+use mathlib.Core.List.{List, [], _∷_, _++_}
 use mathlib.Core.Option.{Option, none, some}
 use lib.ListN.{length}
-use Rattle.refusal.specs.Rules.{Coded, done, no, _when_, ruled}
+use Rattle.refusal.specs.Rules.{done, _when_, ruled}
+use Rattle.node.specs.declared.Message.{Message}
 use Rattle.protocol.specs.declared.Call.the-variants.{Deliver}
+use Rattle.protocol.specs.declared.Reply.the-variants.{Ran}
 use Rattle.protocol.specs.State.{State, wellFormed}
-use Rattle.protocol.specs.Calls.{applyOf}
+use Rattle.protocol.specs.Calls.{Result, refused, applyOf}
 use Rattle.protocol.specs.History.{accepted}
 
 -- "the lowest place that is not refused", of the k places from `place` on
@@ -37,21 +39,18 @@ abbrev pub deliverAll : State → List ℕ → State
 deliverAll s [] = s
 deliverAll s (place ∷ rest) = deliverAll (afterDelivery s place) rest
 
+-- what these deliveries post, in turn
+abbrev pub postsOfAll : State → List ℕ → List Message
+postsOfAll s [] = []
+postsOfAll s (place ∷ rest) = applyOf s (Deliver place) .posts ++ postsOfAll (afterDelivery s place) rest
+
 -- "The answer is the deliveries made and the messages left."
-pub record Drained : Type 0 where
-  pub made : ℕ
-  pub left : ℕ
+abbrev pub drained : State → List ℕ → Result
+drained s places = record {
+  state = deliverAll s places;
+  posts = postsOfAll s places;
+  said = done (Ran (length places) (length (deliverAll s places .messages)));
+}
 
--- what a drain comes to: the network left behind, and an answer or the number of a refusal
-pub record Drain : Type 0 where
-  pub state : State
-  pub said : Coded Drained
-
-abbrev pub refusedDrain : State → ℕ → Drain
-refusedDrain s n = record { state = s; said = no n }
-
-abbrev pub drained : State → List ℕ → Drain
-drained s places = record { state = deliverAll s places; said = done (record { made = length places; left = length (deliverAll s places .messages) }) }
-
-unfoldable pub drainOf : State → ℕ → Drain
-drainOf s budget = ruled ((6 when not (wellFormed s)) ∷ []) (refusedDrain s) (drained s (places budget s))
+unfoldable pub drainOf : State → ℕ → Result
+drainOf s budget = ruled ((6 when not (wellFormed s)) ∷ []) (refused s) (drained s (places budget s))

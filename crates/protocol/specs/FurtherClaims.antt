@@ -5,6 +5,7 @@ use mathlib.Core.Path.{_≡_}
 use mathlib.Core.List.{List, [], _++_, map}
 use lib.ListN.{length}
 use lib.Dec.{T}
+use Rattle.refusal.specs.Code.{plain}
 use Rattle.refusal.specs.Rules.{Coded, done, no}
 use Rattle.serial.specs.Serial.{inRange}
 use Rattle.interval.specs.Interval.{within}
@@ -12,10 +13,12 @@ use Rattle.links.specs.Walk.{after}
 use Rattle.node.specs.declared.Link.the-variants.{To}
 use Rattle.protocol.specs.declared.Call.{Call}
 use Rattle.protocol.specs.declared.Call.the-variants.{Deliver}
+use Rattle.protocol.specs.declared.Reply.{Reply}
+use Rattle.protocol.specs.declared.Reply.the-variants.{Owner}
 use Rattle.protocol.specs.State.{State, keyAt, rightAt, wellFormed}
 use Rattle.protocol.specs.History.{history}
 use Rattle.protocol.specs.Claim.{Inserted, delivered}
-use Rattle.protocol.specs.Questions.{Owner, ownerOf}
+use Rattle.protocol.specs.Questions.{ownerOf}
 use Rattle.protocol.specs.Drain.{places, deliverAll}
 
 -- ---- the owner of a serial
@@ -27,12 +30,13 @@ pub record Owns (s : State) (serial u : ℕ) : Type 0 where
   pub holds : T (within (keyAt s u) (keyAt s next) serial)
 
 -- the answer is a node that so many hops from the start lead to, and it alone owns the serial
-pub record FindsOwner (s : State) (start serial : ℕ) (said : Coded Owner) : Type 0 where
-  pub owner : Owner
-  pub answer : said ≡ done owner
-  pub owns : Owns s serial (owner .node)
-  pub only : (u : ℕ) → Owns s serial u → u ≡ owner .node
-  pub reached : after (rightAt s) start (owner .hops) ≡ owner .node
+pub record FindsOwner (s : State) (start serial : ℕ) (said : Coded Reply) : Type 0 where
+  pub node : ℕ
+  pub hops : ℕ
+  pub answer : said ≡ done (Owner node hops)
+  pub owns : Owns s serial node
+  pub only : (u : ℕ) → Owns s serial u → u ≡ node
+  pub reached : after (rightAt s) start hops ≡ node
 
 -- on a network that some list of calls makes, from an inserted start and for a serial in range
 abbrev pub OwnerClaim : Type 0
@@ -41,7 +45,7 @@ OwnerClaim = (calls : List Call) (start serial : ℕ) → Inserted (history call
 
 -- 31 "met only on a floor that no script makes"
 abbrev pub AlwaysFound : Type 0
-AlwaysFound = (calls : List Call) (start serial : ℕ) → ¬ (ownerOf (history calls .state) start serial ≡ no 31)
+AlwaysFound = (calls : List Call) (start serial : ℕ) → ¬ (ownerOf (history calls .state) start serial ≡ no (plain 31))
 
 -- ---- a drain
 -- with this budget: no more deliveries than the budget, none of them refused, and fewer only where nothing waits at the end

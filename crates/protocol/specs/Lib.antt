@@ -1,9 +1,9 @@
 pub mod State
 pub mod Calls
+pub mod Answer
 pub mod History
 pub mod Claim
 pub mod Example
 pub mod Questions
 pub mod Drain
 pub mod FurtherClaims
-pub mod Posts

@@ -5,42 +5,44 @@ use mathlib.Core.Bool.{not, cond}
 use mathlib.Core.List.{List, [], _∷_}
 use lib.ListN.{length}
 use Rattle.truth.specs.Tests.{countBelow, wordBelow}
+use Rattle.refusal.specs.Code.{plain}
 use Rattle.refusal.specs.Rules.{Coded, done, no, Rule, _when_, ruled}
 use Rattle.serial.specs.Serial.{inRange}
 use Rattle.interval.specs.Interval.{within}
 use Rattle.node.specs.declared.Link.{Link}
 use Rattle.node.specs.declared.Link.the-variants.{Unlinked, To}
+use Rattle.protocol.specs.declared.Reply.{Reply}
+use Rattle.protocol.specs.declared.Reply.the-variants.{Owner, Inserted}
 use Rattle.protocol.specs.State.{State, declared, keyAt, rightAt, wellFormed, inserted}
 
 -- ---- who is inserted
-pub record Members : Type 0 where
-  -- "one 32-bit word, bit n for bench n"
-  pub word : ℕ
-  -- how many are inserted
-  pub size : ℕ
+-- "one 32-bit word, bit n for bench n"
+abbrev pub insertedWord : State → ℕ
+insertedWord s = wordBelow (length (s .nodes)) (inserted s)
 
-abbrev pub members : State → Members
-members s = record { word = wordBelow (length (s .nodes)) (inserted s); size = countBelow (length (s .nodes)) (inserted s) }
+-- how many are inserted
+abbrev pub insertedCount : State → ℕ
+insertedCount s = countBelow (length (s .nodes)) (inserted s)
 
-unfoldable pub membersOf : State → Coded Members
-membersOf s = ruled ((6 when not (wellFormed s)) ∷ []) no (done (members s))
+unfoldable pub insertedOf : State → Coded Reply
+insertedOf s = ruled ((6 when not (wellFormed s)) ∷ []) no (done (Inserted (insertedWord s) (insertedCount s)))
 
 -- ---- "Owner of serial d from a start bench"
--- "The answer is the bench and the hops made."
-pub record Owner : Type 0 where
-  pub node : ℕ
-  pub hops : ℕ
+-- where a walk to an owner ends: at a node, with the hops made, or nowhere
+pub data Walk : Type 0 where
+  found : ℕ → ℕ → Walk
+  lost : Walk
 
 -- at node u, after some hops: u is the owner if the serial is in [key, key of right link), and else it is looked for from the right link on;
--- 31 "a right link missing"
-abbrev pub ownerAt : State → ℕ → ℕ → ℕ → Link → (ℕ → Coded Owner) → Coded Owner
-ownerAt s serial u hops Unlinked beyond = no 31
-ownerAt s serial u hops (To q) beyond = cond (within (keyAt s u) (keyAt s q) serial) (done (record { node = u; hops = hops })) (beyond q)
+-- "a right link missing" ends the walk
+abbrev pub ownerAt : State → ℕ → ℕ → ℕ → Link → (ℕ → Walk) → Walk
+ownerAt s serial u hops Unlinked beyond = lost
+ownerAt s serial u hops (To q) beyond = cond (within (keyAt s u) (keyAt s q) serial) (found u hops) (beyond q)
 
 -- "while d is not in [key, key of right link), go to the right link; each move is a hop", with so many hops left to make;
--- 31 "as many hops as benches made without success"
-abbrev pub ownerFrom : State → ℕ → ℕ → ℕ → ℕ → Coded Owner
-ownerFrom s serial zero u hops = no 31
+-- "as many hops as benches made without success" end it
+abbrev pub ownerFrom : State → ℕ → ℕ → ℕ → ℕ → Walk
+ownerFrom s serial zero u hops = lost
 ownerFrom s serial (suc left) u hops = ownerAt s serial u hops (rightAt s u) (λ q. ownerFrom s serial left q (suc hops))
 
 -- 5 and 4 field by field, as the record has them: the start, then the serial; 30 "start not inserted"
@@ -52,5 +54,10 @@ ownerRules s start serial =
     ∷ (30 when not (inserted s start))
     ∷ []
 
-unfoldable pub ownerOf : State → ℕ → ℕ → Coded Owner
-ownerOf s start serial = ruled (ownerRules s start serial) no (ownerFrom s serial (length (s .nodes)) start 0)
+-- "The answer is the bench and the hops made"; 31 where the walk ends nowhere
+abbrev pub walked : Walk → Coded Reply
+walked (found u hops) = done (Owner u hops)
+walked lost = no (plain 31)
+
+unfoldable pub ownerOf : State → ℕ → ℕ → Coded Reply
+ownerOf s start serial = ruled (ownerRules s start serial) no (walked (ownerFrom s serial (length (s .nodes)) start 0))

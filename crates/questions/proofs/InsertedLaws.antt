@@ -23,11 +23,14 @@ use Rattle.refusal.specs.Rules.{Coded, done}
 use Rattle.node.specs.declared.Node.{Node}
 use Rattle.node.specs.declared.Message.{Message}
 use Rattle.node.specs.Shape.{capacity}
-use Rattle.protocol.specs.State.{isAck, isAckTo, ackWaits, isInserted, inserted}
-use Rattle.protocol.specs.Questions.{Members, membersOf as membersOfLists}
+use Rattle.protocol.specs.State.{isAckTo, ackWaits, isInserted, inserted}
+use Rattle.node.specs.Tests.{isAck}
+use Rattle.protocol.specs.declared.Reply.{Reply}
+use Rattle.protocol.specs.declared.Reply.the-variants.{Inserted}
+use Rattle.protocol.specs.Questions.{insertedOf as insertedInLists}
 use Rattle.network.specs.declared.Network.{Network}
 use Rattle.network.specs.Arrays.{vacantNode, live, wellFormed}
-use Rattle.questions.specs.Answers.{membersOf}
+use Rattle.questions.specs.Answers.{insertedOf}
 use Rattle.network.proofs.Lengths.{Lengths}
 use Rattle.network.proofs.ArrayLaws.{formed}
 use Rattle.network.proofs.LiveLaws.{nodes-length, node-live}
@@ -95,8 +98,8 @@ module _ (n : Network) (l : Lengths n) (h : wellFormed n ≡ true) (acks : List 
       rw (flags u (omega arith)) (ap (λ (node : Node). isInserted (node .status) (ackWaits (live n) u)) (sym (node-live n l h u d k)))
 
   pub members-live : (word : ℕ) → word ≡ wordBelow (n .count) (insertedBy (n .nodes) acks)
-      → _≡_ {A = Coded Members} (done (record { word = word; size = ones word })) (membersOf n)
-  unfolding membersOf membersOfLists
+      → _≡_ {A = Coded Reply} (done (Inserted word (ones word))) (insertedOf n)
+  unfolding insertedOf insertedInLists
   members-live word e =
       let same = e ∙ words-agree (n .count) (insertedBy (n .nodes) acks) (inserted (live n)) (λ u k. inserted-live u vacantNode k) in
       rw (h, formed n h .lists, nodes-length n l h, same, word-ones (n .count) (inserted (live n)))

@@ -1,4 +1,3 @@
 pub mod InsertedLaws
 pub mod OwnerLaws
-pub mod AnswerLaws
 pub mod RingLaws

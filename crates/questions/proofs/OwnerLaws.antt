@@ -7,14 +7,15 @@ use Prim.Native.Nat.{ℕ, suc, _-_, _≤_, _<_}
 use native.Mathlib.Omega.{arith}
 use lib.ListN.{getD}
 use borrow.Author.Tests.{lt-ltb, le-ltb}
-use Rattle.refusal.specs.Rules.{Coded, done, no as refusal}
+use Rattle.refusal.specs.Code.{plain}
+use Rattle.refusal.specs.Rules.{no as refusal}
 use Rattle.serial.specs.Serial.{inRange}
 use Rattle.interval.specs.Interval.{within}
 use Rattle.node.specs.declared.Link.{Link}
 use Rattle.node.specs.declared.Link.the-variants.{Unlinked, To}
 use Rattle.node.specs.declared.Node.{Node}
 use Rattle.protocol.specs.State.{declared, keyAt, rightAt, inserted}
-use Rattle.protocol.specs.Questions.{Owner, ownerAt, ownerFrom, ownerOf as ownerInLists}
+use Rattle.protocol.specs.Questions.{Walk, found, lost, walked, ownerAt, ownerFrom, ownerOf as ownerInLists}
 use Rattle.network.specs.declared.Network.{Network}
 use Rattle.network.specs.Arrays.{vacantNode, live, wellFormed}
 use Rattle.questions.specs.Answers.{ownerOf}
@@ -31,7 +32,7 @@ pub record Turn (n : Network) (u hops : ℕ) : Type 0 where
   pub more : hops < n .count
 
 -- what comes of it
-abbrev pub standing : Network → ℕ → ℕ → ℕ → Coded Owner
+abbrev pub standing : Network → ℕ → ℕ → ℕ → Walk
 standing n serial u hops = ownerFrom (live n) serial (n .count - hops) u hops
 
 module _ {n : Network} {u hops : ℕ} (t : Turn n u hops) where
@@ -47,7 +48,7 @@ module _ {n : Network} {u hops : ℕ} (t : Turn n u hops) where
       ap (λ (left : ℕ). ownerFrom (live n) serial left u hops) one-less
       ∙ ap (λ (x : Link). ownerAt (live n) serial u hops x (λ q. standing n serial q (suc hops))) named
 
-  pub link-missing : (serial : ℕ) → getD (n .nodes) u vacantNode .right ≡ Unlinked → standing n serial u hops ≡ refusal 31
+  pub link-missing : (serial : ℕ) → getD (n .nodes) u vacantNode .right ≡ Unlinked → standing n serial u hops ≡ lost
   link-missing serial e = followed serial Unlinked e
 
   module _ (serial : ℕ) {q : ℕ} (e : getD (n .nodes) u vacantNode .right ≡ To q) where
@@ -56,19 +57,19 @@ module _ {n : Network} {u hops : ℕ} (t : Turn n u hops) where
         let there = next-declared e in
         λ i. within (node-live n (t .arrays) (t .well-formed) u vacantNode (t .here) i .key) (node-live n (t .arrays) (t .well-formed) q vacantNode there i .key) serial
 
-    pub owner-found : within (getD (n .nodes) u vacantNode .key) (getD (n .nodes) q vacantNode .key) serial ≡ true → standing n serial u hops ≡ done (record { node = u; hops = hops })
+    pub owner-found : within (getD (n .nodes) u vacantNode .key) (getD (n .nodes) q vacantNode .key) serial ≡ true → standing n serial u hops ≡ found u hops
     owner-found w = followed serial (To q) e ∙ rw (same-test ∙ w)
 
     pub goes-on : within (getD (n .nodes) u vacantNode .key) (getD (n .nodes) q vacantNode .key) serial ≡ false → standing n serial u hops ≡ standing n serial q (suc hops)
     goes-on w = followed serial (To q) e ∙ rw (same-test ∙ w)
 
 -- no hop is left to make
-pub hops-spent : (n : Network) (serial u hops : ℕ) → n .count - hops ≡ 0 → standing n serial u hops ≡ refusal 31
+pub hops-spent : (n : Network) (serial u hops : ℕ) → n .count - hops ≡ 0 → standing n serial u hops ≡ lost
 hops-spent n serial u hops e = rw e
 
 -- ---- the rules before the walk, in their order
 module _ (n : Network) (l : Lengths n) (h : wellFormed n ≡ true) (start serial : ℕ) where
-  pub start-undeclared : n .count ≤ start → ownerOf n start serial ≡ refusal 5
+  pub start-undeclared : n .count ≤ start → ownerOf n start serial ≡ refusal (plain 5)
   unfolding ownerOf ownerInLists
   start-undeclared k = rw (h, formed n h .lists, nodes-length n l h, le-ltb start (n .count) k)
 
@@ -76,14 +77,14 @@ module _ (n : Network) (l : Lengths n) (h : wellFormed n ≡ true) (start serial
     declared-start : declared (live n) start ≡ true
     declared-start = rw (nodes-length n l h) (lt-ltb start (n .count) k)
 
-    pub serial-too-large : inRange serial ≡ false → ownerOf n start serial ≡ refusal 4
+    pub serial-too-large : inRange serial ≡ false → ownerOf n start serial ≡ refusal (plain 4)
     unfolding ownerOf ownerInLists
     serial-too-large e = rw (h, formed n h .lists, declared-start, e)
 
-    pub start-not-inserted : inRange serial ≡ true → inserted (live n) start ≡ false → ownerOf n start serial ≡ refusal 30
+    pub start-not-inserted : inRange serial ≡ true → inserted (live n) start ≡ false → ownerOf n start serial ≡ refusal (plain 30)
     unfolding ownerOf ownerInLists
     start-not-inserted e f = rw (h, formed n h .lists, declared-start, e, f)
 
-    pub owner-walked : inRange serial ≡ true → inserted (live n) start ≡ true → ownerOf n start serial ≡ ownerFrom (live n) serial (n .count) start 0
+    pub owner-walked : inRange serial ≡ true → inserted (live n) start ≡ true → ownerOf n start serial ≡ walked (ownerFrom (live n) serial (n .count) start 0)
     unfolding ownerOf ownerInLists
     owner-walked e f = rw (h, formed n h .lists, declared-start, e, f, nodes-length n l h)

@@ -4,34 +4,36 @@ use mathlib.Core.Path.{_≡_, ap}
 use mathlib.Core.List.{List}
 use Prim.Native.Nat.{ℕ}
 use lib.Dec.{T}
+use Rattle.refusal.specs.Code.{plain}
 use Rattle.refusal.specs.Rules.{done, no}
 use Rattle.serial.specs.Serial.{inRange}
 use Rattle.protocol.specs.declared.Call.{Call}
+use Rattle.protocol.specs.declared.Reply.the-variants.{Inserted}
 use Rattle.protocol.specs.History.{history}
-use Rattle.protocol.specs.Claim.{Inserted}
-use Rattle.protocol.specs.Questions.{members, membersOf as membersOfLists, ownerOf as ownerInLists}
+use Rattle.protocol.specs.Claim.{Inserted as IsInserted}
+use Rattle.protocol.specs.Questions.{insertedWord, insertedCount, insertedOf as insertedInLists, ownerOf as ownerInLists}
 use Rattle.protocol.specs.FurtherClaims.{FindsOwner}
 use Rattle.protocol.proofs.Owners.{owner-found, always-found}
 use Rattle.network.specs.Arrays.{empty}
 use Rattle.network.proofs.ArrayLaws.{formed}
 use Rattle.calls.specs.Outcomes.{run}
 use Rattle.calls.proofs.RunLaws.{run-live, run-well-formed}
-use Rattle.questions.specs.Answers.{membersOf, ownerOf}
+use Rattle.questions.specs.Answers.{insertedOf, ownerOf}
 
 -- ---- who is inserted
-pub run-members : (calls : List Call) → membersOf (run empty calls) ≡ done (members (history calls .state))
-unfolding membersOf membersOfLists
-run-members calls = let h = run-well-formed calls in rw (h, formed (run empty calls) h .lists) (ap (λ s. done (members s)) (run-live calls))
+pub run-inserted : (calls : List Call) → insertedOf (run empty calls) ≡ done (Inserted (insertedWord (history calls .state)) (insertedCount (history calls .state)))
+unfolding insertedOf insertedInLists
+run-inserted calls = let h = run-well-formed calls in rw (h, formed (run empty calls) h .lists) (ap (λ s. done (Inserted (insertedWord s) (insertedCount s))) (run-live calls))
 
 -- ---- the owner of a serial
 pub run-owner : (calls : List Call) (start serial : ℕ) → ownerOf (run empty calls) start serial ≡ ownerInLists (history calls .state) start serial
 unfolding ownerOf
 run-owner calls start serial = rw (run-well-formed calls, run-live calls)
 
-pub run-owner-found : (calls : List Call) (start serial : ℕ) → Inserted (history calls .state) start → T (inRange serial)
+pub run-owner-found : (calls : List Call) (start serial : ℕ) → IsInserted (history calls .state) start → T (inRange serial)
     → FindsOwner (history calls .state) start serial (ownerOf (run empty calls) start serial)
 run-owner-found calls start serial member ranged = rw (run-owner calls start serial) (owner-found calls start serial member ranged)
 
 -- 31 "met only on a floor that no script makes"
-pub never-31 : (calls : List Call) (start serial : ℕ) → ¬ (ownerOf (run empty calls) start serial ≡ no 31)
+pub never-31 : (calls : List Call) (start serial : ℕ) → ¬ (ownerOf (run empty calls) start serial ≡ no (plain 31))
 never-31 calls start serial = rw (run-owner calls start serial) (always-found calls start serial)

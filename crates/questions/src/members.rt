@@ -4,28 +4,12 @@ ghost use mathlib.Core.Bool.{false};
 ghost use Prim.Native.Nat.{ℕ, _<_, _≤_};
 ghost use lib.ListN.{getD, take};
 ghost use Rattle.truth.specs.Tests.{any, wordBelow};
-ghost use Rattle.protocol.specs.State.{isAck, isAckTo, isInserted};
+ghost use Rattle.protocol.specs.State.{isAckTo, isInserted};
 ghost use Rattle.network.specs.Arrays.{vacantNode};
 use network::CAPACITY;
-use node::Kind;
 use node::Message;
 use node::Node;
 use node::Status;
-
-fn is_ack(kind: Kind) -> bool
-    ensures { λ r. ⌜ r ≡ isAck kind ⌝ }
-{
-    match kind {
-        Kind::SetR {
-            new: _,
-            expected: _,
-            number: _,
-        } => false,
-        Kind::SetRAck { number: _ } => true,
-        Kind::SetRNak => false,
-        Kind::SetL { left: _, number: _ } => false,
-    }
-}
 
 // To which nodes a SetRAck waits, by one walk over the messages.
 pub(crate) fn acknowledged(messages: [Message; 64], waiting: usize) -> [bool; 32]
@@ -38,7 +22,7 @@ pub(crate) fn acknowledged(messages: [Message; 64], waiting: usize) -> [bool; 32
         let message = messages[i];
         let kind = message.kind;
         let to = message.to;
-        if is_ack(kind) & (to < CAPACITY) {
+        if kind.is_ack() & (to < CAPACITY) {
             acks[to as usize] = true;
         }
         i += 1;

@@ -4,13 +4,14 @@ ghost use mathlib.Core.Path.{_≡_};
 ghost use mathlib.Core.Bool.{true};
 ghost use Prim.Native.Nat.{_<_, _≤_};
 ghost use Rattle.protocol.specs.State.{inserted};
-ghost use Rattle.protocol.specs.Questions.{ownerFrom};
+ghost use Rattle.protocol.specs.Answer.{answered};
+ghost use Rattle.protocol.specs.Questions.{ownerFrom, walked};
 ghost use Rattle.network.specs.Arrays.{live, wellFormed};
-ghost use Rattle.questions.specs.Answers.{ownerSaid};
-use crate::OwnerAnswer;
 use crate::members;
 use network::Network;
 use node::Link;
+use protocol::Answer;
+use protocol::Reply;
 use refusal::Refusal;
 
 // Whether a node that is declared is inserted.
@@ -25,9 +26,9 @@ pub(crate) fn starts(network: Network, start: u8) -> bool
     members::is_inserted(status, acks[start as usize])
 }
 
-pub(crate) fn walk(network: Network, start: u8, serial: u32) -> OwnerAnswer
+pub(crate) fn walk(network: Network, start: u8, serial: u32) -> Answer
     requires { ⌜ (start < network .count) × (network .count ≤ 32) ⌝ }
-    ensures { λ r. ⌜ (wellFormed network ≡ true → ownerSaid r ≡ ownerFrom (live network) serial (network .count) start 0) ⌝ }
+    ensures { λ r. ⌜ (wellFormed network ≡ true → answered r ≡ walked (ownerFrom (live network) serial (network .count) start 0)) ⌝ }
 {
     let mut node = start;
     let mut hops: u8 = 0;
@@ -35,17 +36,17 @@ pub(crate) fn walk(network: Network, start: u8, serial: u32) -> OwnerAnswer
         let here = network.nodes[node as usize];
         let link = here.right;
         let Link::To(next) = link else {
-            return OwnerAnswer::Refused(Refusal::OwnerNotFound);
+            return Answer::Refused(Refusal::OwnerNotFound);
         };
         if network.count <= next {
-            return OwnerAnswer::Refused(Refusal::Malformed);
+            return Answer::Refused(Refusal::Malformed);
         }
         let there = network.nodes[next as usize];
         if interval::is_within(here.key, there.key, serial) {
-            return OwnerAnswer::Found { node, hops };
+            return Answer::Done(Reply::Owner { node, hops });
         }
         node = next;
         hops += 1;
     }
-    OwnerAnswer::Refused(Refusal::OwnerNotFound)
+    Answer::Refused(Refusal::OwnerNotFound)
 }

@@ -1,2 +1,3 @@
 pub mod PerformLaws
 pub mod RecordLaws
+pub mod NeverLaws

@@ -1,8 +1,9 @@
--- A record leaves the network well formed, on the arrays as on the lists, and posts no more than a few messages. Assumes nothing.
-use mathlib.Core.Path.{_≡_, refl, _∙_}
+-- A record leaves the network well formed, on the arrays as on the lists, and posts no more than a few messages; a refused one leaves it as
+-- it was. Assumes nothing.
+use mathlib.Core.Path.{_≡_, refl, sym, ap, _∙_}
 use mathlib.Core.Logic.{⊎-elim}
-use mathlib.Core.Bool.{true, not}
-use mathlib.Core.List.{List, [], _∷_, map}
+use mathlib.Core.Bool.{true, false, not}
+use mathlib.Core.List.{List, [], _∷_}
 use mathlib.Core.Option.{Option, none, some}
 use Prim.Native.Nat.{ℕ, _+_, _≤_}
 use native.Mathlib.Omega.{arith}
@@ -10,107 +11,120 @@ use lib.ListN.{length}
 use lib.Dec.{T}
 use Rattle.truth.specs.Tests.{count}
 use Rattle.truth.proofs.TestLaws.{decided, is-true, holds}
-use Rattle.refusal.specs.Rules.{first, settled}
-use Rattle.protocol.specs.declared.Call.{Call}
-use Rattle.protocol.specs.declared.Call.the-variants.{Declare, Create, Join, Leave, Deliver}
+use Rattle.refusal.specs.Code.{Reason, plain}
+use Rattle.refusal.specs.Rules.{Coded, no, _when_, first, settled}
+use Rattle.serial.specs.Serial.{coded}
 use Rattle.node.specs.declared.Message.{Message}
-use Rattle.protocol.specs.State.{State, isRequest, wellFormed}
-use Rattle.protocol.specs.Calls.{applyOf}
-use Rattle.protocol.specs.History.{accepted}
-use Rattle.protocol.specs.Posts.{posted, takes}
-use Rattle.protocol.specs.Drain.{places, deliverAll, drainOf}
+use Rattle.node.specs.Tests.{isRequest}
+use Rattle.protocol.specs.declared.Order.the-variants.{Declare as DeclareOrder}
+use Rattle.protocol.specs.declared.Call.the-variants.{Order, Deliver}
+use Rattle.protocol.specs.declared.Reply.{Reply}
+use Rattle.protocol.specs.State.{State, wellFormed}
+use Rattle.protocol.specs.Calls.{refused, applyOf}
+use Rattle.protocol.specs.Drain.{places, deliverAll, drained, drainOf}
 use Rattle.protocol.proofs.Facts.{formed}
 use Rattle.protocol.proofs.Lively.{steady}
-use Rattle.protocol.proofs.Posted.{accepted-adds, refused-adds, deliveries-take}
+use Rattle.protocol.proofs.Drains.{drains}
+use Rattle.protocol.proofs.Posted.{few-posts, few-posts-of-all, refused-same as call-refused-same, drain-refused-same}
 use Rattle.network.specs.declared.Network.{Network}
 use Rattle.network.specs.Arrays.{live, wellFormed as arraysAreWellFormed}
-use Rattle.network.proofs.ArrayLaws.{held-well-formed, formed as arrays-formed}
-use Rattle.script.specs.Script.{Entry, declare, create, join, leave, deliver, owner, drain}
-use Rattle.records.specs.Performance.{turnedDown, fieldRules, valueOf, performing, performOf}
-use Rattle.records.specs.InArrays.{Effect, inArrays, performOf as performOnArrays}
+use Rattle.network.proofs.Lengths.{Lengths}
+use Rattle.network.proofs.ArrayLaws.{held-live, held-well-formed, formed as arrays-formed}
+use Rattle.calls.specs.Outcomes.{Counted, counted, refused as arraysRefused, inArrays}
+use Rattle.script.specs.declared.Record.{Record}
+use Rattle.script.specs.declared.Record.the-variants.{Call, Declare, Owner, Drain}
+use Rattle.records.specs.Performance.{fieldRules, valueOf, performing, performOf}
+use Rattle.records.specs.InArrays.{performOf as performOnArrays}
 
--- ---- what waits is never more than the limit
-few-waiting : (s : State) → T (wellFormed s) → length (s .messages) ≤ 64
-few-waiting s w = formed s (is-true _ w) .few-messages
-
+-- ---- a record leaves the network well formed
 deliveries-kept : (s : State) → T (wellFormed s) → (places : List ℕ) → T (wellFormed (deliverAll s places))
 deliveries-kept s w [] = w
 deliveries-kept s w (place ∷ places) = deliveries-kept (applyOf s (Deliver place) .state) (steady s w .kept (Deliver place)) places
 
--- ---- a record
+pub drain-is : (s : State) (budget : ℕ) → T (wellFormed s) → drainOf s budget ≡ drained s (places budget s)
+unfolding drainOf
+drain-is s budget w = rw (is-true (wellFormed s) w)
+
 module _ (s : State) (w : T (wellFormed s)) where
-  drain-state : (budget : ℕ) → drainOf s budget .state ≡ deliverAll s (places budget s)
-  unfolding drainOf
-  drain-state budget = rw (is-true (wellFormed s) w)
+  performing-kept : (asked : Record) → T (wellFormed (performing s asked .state))
+  performing-kept (Call call) = steady s w .kept call
+  performing-kept (Declare serial) = steady s w .kept (Order (DeclareOrder (valueOf (coded serial))))
+  performing-kept (Owner start serial) = w
+  performing-kept (Drain budget) = rw (drain-is s budget w) (deliveries-kept s w (places budget s))
 
-  performing-kept : (e : Entry) → T (wellFormed (performing s e .state))
-  performing-kept (declare serial) = steady s w .kept (Declare (valueOf serial))
-  performing-kept (create u) = steady s w .kept (Create u)
-  performing-kept (join u p q) = steady s w .kept (Join u p q)
-  performing-kept (leave u) = steady s w .kept (Leave u)
-  performing-kept (deliver place) = steady s w .kept (Deliver place)
-  performing-kept (owner start serial) = w
-  performing-kept (drain budget) = rw (drain-state budget) (deliveries-kept s w (places budget s))
-
-  pub record-kept : (e : Entry) → T (wellFormed (performOf s e .state))
+  pub record-kept : (asked : Record) → T (wellFormed (performOf s asked .state))
   unfolding performOf
-  record-kept e = rw (is-true (wellFormed s) w) (go (first (fieldRules s e)))
+  record-kept asked = rw (is-true (wellFormed s) w) (go (first (fieldRules s asked)))
     where
-      go : (o : Option ℕ) → T (wellFormed (settled o (turnedDown s) (performing s e) .state))
-      go none = performing-kept e
-      go (some n) = w
+      go : (o : Option Reason) → T (wellFormed (settled o (refused s) (performing s asked) .state))
+      go none = performing-kept asked
+      go (some r) = w
 
 -- ---- how many messages a record posts
-at-most-one : (call : Call) → takes call ≤ 1
-at-most-one (Declare key) = omega arith
-at-most-one (Create u) = omega arith
-at-most-one (Join u p q) = omega arith
-at-most-one (Leave u) = omega arith
-at-most-one (Deliver place) = omega arith
-
 counted-apart : (ms : List Message) → count (λ m. isRequest (m .kind)) ms + count (λ m. not (isRequest (m .kind))) ms ≡ length ms
 counted-apart [] = refl
 counted-apart (m ∷ ms) = ⊎-elim (λ t. rw t (omega (arith, counted-apart ms))) (λ f. rw f (omega (arith, counted-apart ms))) (decided (isRequest (m .kind)))
 
 module _ (s : State) (w : T (wellFormed s)) where
-  call-posts : (call : Call) → posted s (call ∷ []) ≤ 256
-  call-posts call =
-      ⊎-elim
-      (λ t. omega (arith, accepted-adds s call t, at-most-one call, few-waiting _ (steady s w .kept call)))
-      (λ f. omega (arith, refused-adds s call f .1))
-      (decided (accepted (applyOf s call .said)))
-
-  drain-posts : (budget : ℕ) → posted s (map Deliver (places budget s)) ≤ 256
+  -- each delivery of a drain lowers the load, which is no more than three for each of 64 messages
+  drain-posts : (budget : ℕ) → length (drainOf s budget .posts) ≤ 384
   drain-posts budget =
-      omega (
+      rw (drain-is s budget w)
+      (omega (
         arith,
-        deliveries-take s (places budget s),
-        few-waiting (deliverAll s (places budget s)) (deliveries-kept s w (places budget s)),
+        few-posts-of-all s (places budget s),
+        drains s w budget .none-refused,
         steady s w .lively .bound (places budget s),
         counted-apart (s .messages),
-        few-waiting s w,
-      )
+        formed s (is-true _ w) .few-messages,
+      ))
 
-  performing-posts : (e : Entry) → performing s e .posted ≤ 256
-  performing-posts (declare serial) = call-posts (Declare (valueOf serial))
-  performing-posts (create u) = call-posts (Create u)
-  performing-posts (join u p q) = call-posts (Join u p q)
-  performing-posts (leave u) = call-posts (Leave u)
-  performing-posts (deliver place) = call-posts (Deliver place)
-  performing-posts (owner start serial) = omega arith
-  performing-posts (drain budget) = drain-posts budget
+  performing-posts : (asked : Record) → length (performing s asked .posts) ≤ 384
+  performing-posts (Call call) = omega (arith, few-posts s call)
+  performing-posts (Declare serial) = omega (arith, few-posts s (Order (DeclareOrder (valueOf (coded serial)))))
+  performing-posts (Owner start serial) = omega arith
+  performing-posts (Drain budget) = drain-posts budget
 
-  pub record-posts : (e : Entry) → performOf s e .posted ≤ 256
+  pub record-posts : (asked : Record) → length (performOf s asked .posts) ≤ 384
   unfolding performOf
-  record-posts e = rw (is-true (wellFormed s) w) (go (first (fieldRules s e)))
+  record-posts asked = rw (is-true (wellFormed s) w) (go (first (fieldRules s asked)))
     where
-      go : (o : Option ℕ) → settled o (turnedDown s) (performing s e) .posted ≤ 256
-      go none = performing-posts e
-      go (some n) = omega arith
+      go : (o : Option Reason) → length (settled o (refused s) (performing s asked) .posts) ≤ 384
+      go none = performing-posts asked
+      go (some r) = omega arith
+
+-- ---- a refused record leaves the network as it was, and posts nothing
+performing-refused : (s : State) (asked : Record) (r : Reason) → performing s asked .said ≡ no r → performing s asked ≡ refused s r
+performing-refused s (Call call) r e = call-refused-same s call r e
+performing-refused s (Declare serial) r e = call-refused-same s (Order (DeclareOrder (valueOf (coded serial)))) r e
+performing-refused s (Owner start serial) r e = λ i. record { state = s; posts = []; said = e i }
+performing-refused s (Drain budget) r e = drain-refused-same s budget r e
+
+lists-refused-same : (s : State) (asked : Record) (r : Reason) → performOf s asked .said ≡ no r → performOf s asked ≡ refused s r
+unfolding performOf
+lists-refused-same s asked r e = go (first ((6 when not (wellFormed s)) ∷ fieldRules s asked)) e
+  where
+    go : (o : Option Reason) → settled o (refused s) (performing s asked) .said ≡ no r → settled o (refused s) (performing s asked) ≡ refused s r
+    go none f = performing-refused s asked r f
+    go (some n) f = let same : n ≡ r = cc in ap (refused s) same
+
+malformed : (n : Network) (asked : Record) → arraysAreWellFormed n ≡ false → performOnArrays n asked ≡ arraysRefused n (plain 6)
+unfolding performOnArrays
+malformed n asked f = rw f
+
+pub refused-same : (n : Network) → Lengths n → (asked : Record) (r : Reason) → performOnArrays n asked .said ≡ no r → performOnArrays n asked ≡ arraysRefused n r
+unfolding performOnArrays
+refused-same n l asked r e = ⊎-elim well (λ f. malformed n asked f ∙ ap (arraysRefused n) (six f)) (decided (arraysAreWellFormed n))
+  where
+    well : arraysAreWellFormed n ≡ true → performOnArrays n asked ≡ arraysRefused n r
+    well t = let said : performOf (live n) asked .said ≡ no r = rw t at e in rw (t, lists-refused-same (live n) asked r said, held-live n (l .nodes) (l .messages) t)
+
+    six : arraysAreWellFormed n ≡ false → plain 6 ≡ r
+    six f = let given : _≡_ {A = Coded Reply} (no (plain 6)) (no r) = rw (malformed n asked f) at e in cc
 
 -- ---- a record on the arrays of a well-formed network
-module _ (n : Network) (sound : arraysAreWellFormed n ≡ true) (e : Entry) (r : Effect) (performed : r ≡ performOnArrays n e) where
-  pub on-lists : r ≡ inArrays (performOf (live n) e)
+module _ (n : Network) (sound : arraysAreWellFormed n ≡ true) (asked : Record) (r : Counted) (performed : r ≡ counted (performOnArrays n asked)) where
+  pub on-lists : r ≡ counted (inArrays (performOf (live n) asked))
   unfolding performOnArrays
   on-lists = performed ∙ rw sound
 
@@ -118,7 +132,13 @@ module _ (n : Network) (sound : arraysAreWellFormed n ≡ true) (e : Entry) (r :
   lists-sound = holds (arrays-formed n sound .lists)
 
   pub stays-well-formed : arraysAreWellFormed (r .network) ≡ true
-  stays-well-formed = rw on-lists (held-well-formed (performOf (live n) e .state) (is-true _ (record-kept (live n) lists-sound e)))
+  stays-well-formed = rw on-lists (held-well-formed (performOf (live n) asked .state) (is-true _ (record-kept (live n) lists-sound asked)))
 
-  pub few-posts : r .posted ≤ 256
-  few-posts = rw on-lists (record-posts (live n) lists-sound e)
+  pub few-posted : r .posted ≤ 384
+  few-posted = rw on-lists (record-posts (live n) lists-sound asked)
+
+  -- where it is refused, the network is the very one, and nothing was posted
+  pub refused-unchanged : Lengths n → (reason : Reason) → r .said ≡ no reason → (r .network ≡ n) × (r .posted ≡ 0)
+  refused-unchanged l reason e =
+      let same = performed ∙ ap counted (refused-same n l asked reason (ap (λ (x : Counted). x .said) (sym performed) ∙ e)) in
+      (ap (λ (x : Counted). x .network) same, ap (λ (x : Counted). x .posted) same)

@@ -1,3 +1,2 @@
 pub mod Performance
 pub mod InArrays
-pub mod Works

@@ -13,8 +13,8 @@ use Rattle.refusal.specs.declared.Refusal.{Refusal}
 use Rattle.refusal.specs.declared.Refusal.the-variants.{UnknownMark, CutShort, BadDigit, SerialTooLarge, Undeclared, Malformed, ScriptTooLong, NetworkFull, KeyTaken, NotAllOut, NotOut, NotBetween, NoticeWaiting, NotIn, SequenceSpent, QueueFull, NoMessage, StartNotInserted, OwnerNotFound}
 use Rattle.refusal.specs.declared.Check.{Check}
 use Rattle.refusal.specs.declared.Check.the-variants.{Clear, Refuse}
-use Rattle.refusal.specs.Code.{code}
-use Rattle.refusal.specs.Rules.{Rule, _when_, first, checked, settled, ruled}
+use Rattle.refusal.specs.Code.{code, Reason, plain, reason}
+use Rattle.refusal.specs.Rules.{Rule, rule, first, checked, settled, ruled}
 
 -- the numbers from 1, and those from 20
 fromInput : List Refusal
@@ -51,9 +51,12 @@ named-code OwnerNotFound = refl
 pub code-injective : (r s : Refusal) → code r ≡ code s → r ≡ s
 code-injective r s e = sym (named-code r) ∙ ap named e ∙ named-code s
 
+pub reason-injective : (r s : Refusal) → reason r ≡ reason s → r ≡ s
+reason-injective r s e = code-injective r s cc
+
 -- ---- a check that says what the rules say settles the call
-module _ {B : Type 0} (rules : List Rule) {k : Check} (says : checked k ≡ first rules) (refused : ℕ → B) (accepted : B) where
-  pub on-refuse : {r : Refusal} → k ≡ Refuse r → refused (code r) ≡ ruled rules refused accepted
+module _ {B : Type 0} (rules : List Rule) {k : Check} (says : checked k ≡ first rules) (refused : Reason → B) (accepted : B) where
+  pub on-refuse : {r : Refusal} → k ≡ Refuse r → refused (reason r) ≡ ruled rules refused accepted
   on-refuse e = ap (λ o. settled o refused accepted) (ap checked (sym e) ∙ says)
 
   pub on-clear : k ≡ Clear → accepted ≡ ruled rules refused accepted
@@ -62,30 +65,30 @@ module _ {B : Type 0} (rules : List Rule) {k : Check} (says : checked k ≡ firs
 -- ---- rules after other rules
 pub first-append : (rules rest : List Rule) → first (rules ++ rest) ≡ settled (first rules) some (first rest)
 first-append [] rest = refl
-first-append ((n when true) ∷ rules) rest = refl
-first-append ((n when false) ∷ rules) rest = first-append rules rest
+first-append (rule r true ∷ rules) rest = refl
+first-append (rule r false ∷ rules) rest = first-append rules rest
 
 -- ---- where no rule refuses, no condition of theirs holds
 abbrev pub Cleared : List Rule → Type 0
 Cleared [] = Unit {0}
-Cleared ((n when refuses) ∷ rules) = (refuses ≡ false) × Cleared rules
+Cleared (rule r refuses ∷ rules) = (refuses ≡ false) × Cleared rules
 
 pub cleared : (rules : List Rule) → first rules ≡ none → Cleared rules
 cleared [] e = tt
-cleared ((n when true) ∷ rules) e = let z : _≡_ {A = ℕ} 0 1 = cc in absurd (omega arith)
-cleared ((n when false) ∷ rules) e = (refl, cleared rules e)
+cleared (rule r true ∷ rules) e = let z : _≡_ {A = ℕ} 0 1 = cc in absurd (omega arith)
+cleared (rule r false ∷ rules) e = (refl, cleared rules e)
 
 -- ---- a number that is not given: each rule has another, or its condition does not hold where no rule before it refuses
 pub data Never (n : ℕ) : List Rule → Type 0 where
   end : Never n []
-  other : {m : ℕ} {refuses : Bool} {rules : List Rule} → eqb m n ≡ false → (refuses ≡ false → Never n rules) → Never n ((m when refuses) ∷ rules)
-  fails : {m : ℕ} {refuses : Bool} {rules : List Rule} → refuses ≡ false → Never n rules → Never n ((m when refuses) ∷ rules)
+  other : {m : ℕ} {refuses : Bool} {rules : List Rule} → eqb m n ≡ false → (refuses ≡ false → Never n rules) → Never n (rule (plain m) refuses ∷ rules)
+  fails : {m : ℕ} {refuses : Bool} {rules : List Rule} → refuses ≡ false → Never n rules → Never n (rule (plain m) refuses ∷ rules)
 
-pub never : {n : ℕ} {rules : List Rule} → Never n rules → first rules ≡ some n → ⊥
+pub never : {n : ℕ} {rules : List Rule} → Never n rules → first rules ≡ some (plain n) → ⊥
 never end e = let z : _≡_ {A = ℕ} 0 1 = cc in omega arith
 never {n} (other {m} {refuses} {rules} d t) e = go refuses refl (λ f. never (t f))
   where
-    go : (b : Bool) → refuses ≡ b → (refuses ≡ false → first rules ≡ some n → ⊥) → ⊥
-    go true f later = let given : some m ≡ some n = rw f at e in let same : m ≡ n = cc in eqb-false m n d same
+    go : (b : Bool) → refuses ≡ b → (refuses ≡ false → first rules ≡ some (plain n) → ⊥) → ⊥
+    go true f later = let given : some (plain m) ≡ some (plain n) = rw f at e in let same : m ≡ n = cc in eqb-false m n d same
     go false f later = later f (rw f at e)
 never (fails f t) e = never t (rw f at e)

@@ -1,5 +1,5 @@
--- The number that paper 01 gives each refusal, in the paper's order and with its condition beside it. A contract that refuses
--- states a number, and reads the code's answer through `code`.
+-- The number that paper 01 gives each refusal, in the paper's order and with its condition beside it, and what a refusal says: its
+-- reason. A contract that refuses states a reason, and reads the code's answer through `reason`. Definitions only.
 use Prim.Native.Nat.{ℕ}
 use Rattle.refusal.specs.declared.Refusal.{Refusal}
 use Rattle.refusal.specs.declared.Refusal.the-variants.{UnknownMark, CutShort, BadDigit, SerialTooLarge, Undeclared, Malformed, ScriptTooLong, NetworkFull, KeyTaken, NotAllOut, NotOut, NotBetween, NoticeWaiting, NotIn, SequenceSpent, QueueFull, NoMessage, StartNotInserted, OwnerNotFound}
@@ -26,3 +26,10 @@ code QueueFull = 28  -- 64 messages wait
 code NoMessage = 29  -- deliver: no message at that place
 code StartNotInserted = 30  -- owner: start not inserted
 code OwnerNotFound = 31  -- owner: no success within the hops, or a right link missing
+
+-- ---- what a refusal says: its number, and nothing else so far
+pub data Reason : Type 0 where
+  plain : ℕ → Reason
+
+abbrev pub reason : Refusal → Reason
+reason r = plain (code r)

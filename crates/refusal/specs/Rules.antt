@@ -1,36 +1,41 @@
--- How a call refuses: its rules stand in the paper's order, and the first whose condition holds gives its number. Definitions only.
+-- How a call refuses: its rules stand in the paper's order, and the first whose condition holds gives its reason. Definitions
+-- only.
 use Prim.Native.Nat.{ℕ}
 use mathlib.Core.Bool.{Bool, cond}
 use mathlib.Core.List.{List, [], _∷_}
 use mathlib.Core.Option.{Option, none, some}
 use Rattle.refusal.specs.declared.Check.{Check}
 use Rattle.refusal.specs.declared.Check.the-variants.{Clear, Refuse}
-use Rattle.refusal.specs.Code.{code}
+use Rattle.refusal.specs.Code.{Reason, plain, reason}
 
--- what a call says: its answer, or the number of a refusal
+-- what a call says: its answer, or the reason of a refusal
 pub data Coded (A : Type 0) : Type 0 where
   done : A → Coded A
-  no : ℕ → Coded A
+  no : Reason → Coded A
 
--- a number of paper 01, and the condition under which it is given
+-- a reason, and the condition under which it is given
 pub data Rule : Type 0 where
-  _when_ : ℕ → Bool → Rule
+  rule : Reason → Bool → Rule
 
+-- the same of a number of paper 01
 infix 10 _when_
+abbrev pub _when_ : ℕ → Bool → Rule
+n when refuses = rule (plain n) refuses
+
 -- "A refusal is given where its condition holds and no earlier one does, and at no other time."
-abbrev pub first : List Rule → Option ℕ
+abbrev pub first : List Rule → Option Reason
 first [] = none
-first ((n when refuses) ∷ rules) = cond refuses (some n) (first rules)
+first (rule r refuses ∷ rules) = cond refuses (some r) (first rules)
 
 -- what the code's check says
-abbrev pub checked : Check → Option ℕ
+abbrev pub checked : Check → Option Reason
 checked Clear = none
-checked (Refuse r) = some (code r)
+checked (Refuse r) = some (reason r)
 
--- what comes of a call: `refused` of the number, or else what is accepted
-abbrev pub settled : {B : Type 0} → Option ℕ → (ℕ → B) → B → B
+-- what comes of a call: `refused` of the reason, or else what is accepted
+abbrev pub settled : {B : Type 0} → Option Reason → (Reason → B) → B → B
 settled none refused accepted = accepted
-settled (some n) refused accepted = refused n
+settled (some r) refused accepted = refused r
 
-abbrev pub ruled : {B : Type 0} → List Rule → (ℕ → B) → B → B
+abbrev pub ruled : {B : Type 0} → List Rule → (Reason → B) → B → B
 ruled rules refused accepted = settled (first rules) refused accepted

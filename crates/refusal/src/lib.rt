@@ -2,7 +2,7 @@
 ghost use mathlib.Core.Path.{_≡_};
 ghost use mathlib.Core.Bool.{cond};
 ghost use mathlib.Core.Option.{some};
-ghost use Rattle.refusal.specs.Code.{code};
+ghost use Rattle.refusal.specs.Code.{code, reason};
 ghost use Rattle.refusal.specs.Rules.{checked};
 
 // No case carries anything but its number.
@@ -66,7 +66,7 @@ pub enum Check {
 
 // One more rule, before those of `rest`.
 pub fn rule(refuses: bool, refusal: Refusal, rest: Check) -> Check
-    ensures { λ r. ⌜ checked r ≡ cond refuses (some (code refusal)) (checked rest) ⌝ }
+    ensures { λ r. ⌜ checked r ≡ cond refuses (some (reason refusal)) (checked rest) ⌝ }
 {
     if refuses {
         Check::Refuse(refusal)

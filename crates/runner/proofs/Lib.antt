@@ -3,5 +3,4 @@ pub mod StepLaws
 pub mod LoopLaws
 pub mod Theorem
 pub mod Rows
-pub mod Walking
 pub mod Stepping

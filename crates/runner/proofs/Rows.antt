@@ -27,7 +27,7 @@ use Rattle.network.proofs.Network.Laws as N′
 use Rattle.runner.specs.declared.Progress.{Progress}
 use Rattle.runner.proofs.Progress as P
 use Rattle.runner.proofs.Progress.Laws as P′
-use Rattle.runner.proofs.Walking.{seen, had}
+use Rattle.network.proofs.Walking.{seen, had}
 
 abbrev pub Text : RattleType
 Text = Array u8 1_048_576

@@ -7,8 +7,10 @@ use native.Mathlib.Omega.{arith}
 use native.Mathlib.Nat.{zero-add, suc-add}
 use lib.ListN.{length}
 use lib.Dec.{T}
+use Rattle.refusal.specs.Code.{Reason}
 use Rattle.protocol.specs.State.{wellFormed}
-use Rattle.script.specs.Script.{Entry, Read, end, stop, next, readAt}
+use Rattle.script.specs.declared.Record.{Record}
+use Rattle.script.specs.Script.{Read, end, stop, next, readAt}
 use Rattle.script.proofs.Laws.{at-end, before-end, after-cursor}
 use Rattle.records.proofs.RecordLaws.{record-kept, record-posts}
 use Rattle.runner.specs.Run.{Progress, advanced, stepOf, after}
@@ -20,11 +22,11 @@ pub record Within (script : List ℕ) (p : Progress) : Type 0 where
   -- each record has three bytes at least; the last may be cut short
   pub records : p .at < length script → 3 * p .ordinal ≤ p .at
   pub few : 3 * p .ordinal ≤ p .at + 2
-  pub posts : p .posted ≤ 256 * p .ordinal
+  pub posts : p .posted ≤ 384 * p .ordinal
 
 module _ (script : List ℕ) (p : Progress) (h : Within script p) (not-ended : p .at < length script) where
-  stopped-within : (n : ℕ) → Within script (advanced script p (stop n))
-  stopped-within n = record {
+  stopped-within : (r : Reason) → Within script (advanced script p (stop r))
+  stopped-within r = record {
     sound = h .sound;
     inside = omega arith;
     records = λ l. absurd (omega arith);
@@ -32,7 +34,7 @@ module _ (script : List ℕ) (p : Progress) (h : Within script p) (not-ended : p
     posts = omega (arith, h .posts);
   }
 
-  next-within : (e : Entry) (c : ℕ) → p .at + 3 ≤ c → c ≤ length script → Within script (advanced script p (next e c))
+  next-within : (e : Record) (c : ℕ) → p .at + 3 ≤ c → c ≤ length script → Within script (advanced script p (next e c))
   next-within e c far inside = record {
     sound = record-kept (p .state) (h .sound) e;
     inside = inside;

@@ -7,21 +7,25 @@ use Prim.Native.Nat.{ℕ, _+_, _≤_, _<_}
 use lib.ListN.{length, take}
 use lib.Seq.{length-take-le}
 use Rattle.io.specs.Counts.{Counts}
+use Rattle.refusal.specs.Code.{Reason}
 use Rattle.refusal.specs.Rules.{no}
 use native.Mathlib.Omega.{arith}
 use Rattle.text.specs.Text.{pasted, placeAfter}
 use Rattle.text.proofs.Laws.{place-after, take-pasted}
 use Rattle.network.specs.declared.Network.{Network}
 use Rattle.network.specs.Arrays.{live, wellFormed}
+use Rattle.network.proofs.Lengths.{Lengths}
 use Rattle.network.proofs.ArrayLaws.{live-held}
-use Rattle.script.specs.Script.{Entry, end, stop, next, readAt}
+use Rattle.script.specs.declared.Record.{Record}
+use Rattle.script.specs.Script.{end, stop, next, readAt}
 use Rattle.printout.specs.Lines.{lineOf}
 use Rattle.runner.specs.declared.Progress.{Progress}
 use Rattle.records.specs.Performance.{performOf as performOnLists}
 use Rattle.runner.specs.Run.{Progress as Reached, stepOf}
-use Rattle.records.specs.InArrays.{Effect, performOf}
+use Rattle.calls.specs.Outcomes.{Counted, counted}
+use Rattle.records.specs.InArrays.{performOf}
 use Rattle.runner.specs.Reached.{reached}
-use Rattle.records.proofs.RecordLaws.{on-lists}
+use Rattle.records.proofs.RecordLaws.{on-lists, refused-unchanged}
 
 -- ---- what a step starts from and ends in, and how far that is; what the contract of a step asks, and what it ensures
 pub record State : Type 0 where
@@ -44,15 +48,25 @@ module _ (script buffer : List ℕ) (n : Network) (p : Progress) where
   step-ended read = rw read
 
   module _ (after : List ℕ) (used : ℕ) where
-    pub step-stopped : (number : ℕ) → readAt script (p .at) ≡ stop number → take used after ≡ take (p .used) buffer ++ lineOf (p .ordinal + 1) (no number)
+    pub step-stopped : (r : Reason) → readAt script (p .at) ≡ stop r → take used after ≡ take (p .used) buffer ++ lineOf (p .ordinal + 1) (no r)
         → reached n (record { at = length script; ordinal = p .ordinal + 1; posted = p .posted; used = used }) after ≡ stepOf script (reached n p buffer)
-    step-stopped number read printed = rw (read, printed)
+    step-stopped r read printed = rw (read, printed)
 
-    pub step-performed : (e : Entry) (c : ℕ) (r : Effect) → wellFormed n ≡ true → readAt script (p .at) ≡ next e c → r ≡ performOf n e
+    pub step-performed : (asked : Record) (c : ℕ) (r : Counted) → wellFormed n ≡ true → readAt script (p .at) ≡ next asked c → r ≡ counted (performOf n asked)
         → take used after ≡ take (p .used) buffer ++ lineOf (p .ordinal + 1) (r .said)
         → reached (r .network) (record { at = c; ordinal = p .ordinal + 1; posted = p .posted + r .posted; used = used }) after ≡ stepOf script (reached n p buffer)
-    step-performed e c r sound read performed printed =
-        rw (read, printed, on-lists n sound e r performed, live-held (performOnLists (live n) e .state))
+    step-performed asked c r sound read performed printed =
+        rw (read, printed, on-lists n sound asked r performed, live-held (performOnLists (live n) asked .state))
+
+    -- a refused record leaves the very network, and posts nothing
+    pub step-refused : (asked : Record) (c : ℕ) (r : Counted) → Lengths n → wellFormed n ≡ true → readAt script (p .at) ≡ next asked c → r ≡ counted (performOf n asked)
+        → (reason : Reason) → r .said ≡ no reason → take used after ≡ take (p .used) buffer ++ lineOf (p .ordinal + 1) (r .said)
+        → reached n (record { at = c; ordinal = p .ordinal + 1; posted = p .posted; used = used }) after ≡ stepOf script (reached n p buffer)
+    step-refused asked c r l sound read performed reason refused printed =
+        let (same, nothing) = refused-unchanged n sound asked r performed l reason refused in
+        let none-more : p .posted ≡ p .posted + r .posted = omega (arith, nothing) in
+        (λ i. reached (sym same i) (record { at = c; ordinal = p .ordinal + 1; posted = none-more i; used = used }) after)
+        ∙ step-performed asked c r sound read performed printed
 
 -- ---- a line that is put after what has been printed
 pub line-put : (text after piece line : List ℕ) (at r : ℕ) → (r ≡ placeAfter text at piece) × (after ≡ pasted text at piece) → piece ≡ line

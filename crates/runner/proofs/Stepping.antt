@@ -36,7 +36,7 @@ use Rattle.network.proofs.Lengths.{Lengths, lengths}
 use Rattle.runner.specs.declared.Progress.{Progress}
 use Rattle.runner.proofs.Progress as P
 use Rattle.runner.proofs.Progress.Laws as P′
-use Rattle.runner.proofs.Walking.{seen, had, returned}
+use Rattle.network.proofs.Walking.{seen, had, returned}
 use Rattle.runner.proofs.Rows.{Text, networkVal, progressVal, lies, cell, lies-in, lies-out}
 use Rattle.runner.proofs.StepLaws.{State, MayStep, Stepped}
 use Rattle.runner.proofs.step as step

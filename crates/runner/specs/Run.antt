@@ -4,6 +4,7 @@ use mathlib.Core.Bool.{cond}
 use mathlib.Core.List.{List, _++_}
 use lib.ListN.{length}
 use lib.Dec.{ltb}
+use Rattle.refusal.specs.Code.{plain}
 use Rattle.refusal.specs.Rules.{no}
 use Rattle.protocol.specs.State.{State, empty}
 use Rattle.script.specs.Script.{Read, end, stop, next, readAt}
@@ -24,13 +25,13 @@ start = record { state = empty; at = 0; ordinal = 0; posted = 0; text = heading 
 -- one more record, by what is read at the cursor; "Refusals 1 and 2 stop the reading; after others it goes on": nothing is read past the end
 abbrev pub advanced : List ℕ → Progress → Read → Progress
 advanced script p end = p
-advanced script p (stop n) = record { state = p .state; at = length script; ordinal = p .ordinal + 1; posted = p .posted; text = p .text ++ lineOf (p .ordinal + 1) (no n) }
-advanced script p (next e after) = record {
-  state = performOf (p .state) e .state;
+advanced script p (stop r) = record { state = p .state; at = length script; ordinal = p .ordinal + 1; posted = p .posted; text = p .text ++ lineOf (p .ordinal + 1) (no r) }
+advanced script p (next asked after) = record {
+  state = performOf (p .state) asked .state;
   at = after;
   ordinal = p .ordinal + 1;
-  posted = p .posted + performOf (p .state) e .posted;
-  text = p .text ++ lineOf (p .ordinal + 1) (performOf (p .state) e .said);
+  posted = p .posted + length (performOf (p .state) asked .posts);
+  text = p .text ++ lineOf (p .ordinal + 1) (performOf (p .state) asked .said);
 }
 
 abbrev pub stepOf : List ℕ → Progress → Progress
@@ -51,7 +52,7 @@ sizeLimit = 65_536
 
 -- "only `ring 1`, `0 no 7` and `end 0 posted 0` are printed"
 abbrev pub tooLong : List ℕ
-tooLong = (heading ++ lineOf 0 (no 7)) ++ lastLine 0 0
+tooLong = (heading ++ lineOf 0 (no (plain 7))) ++ lastLine 0 0
 
 -- a script has no more records than bytes
 unfoldable pub printoutOf : List ℕ → List ℕ

@@ -4,15 +4,16 @@
 ghost use Prim.Native.Nat.{_+_, _≤_, _<_};
 ghost use Rattle.io.specs.Counts.{Counts};
 ghost use Rattle.network.specs.Arrays.{wellFormed};
-ghost use Rattle.printout.specs.Lines.{said, heading, lineOf, lastLine};
+ghost use Rattle.protocol.specs.Answer.{answered};
+ghost use Rattle.printout.specs.Lines.{heading, lineOf, lastLine};
 ghost use Rattle.runner.specs.Reached.{reached};
 ghost use Rattle.runner.specs.Run.{stepOf, after, closed, sizeLimit, tooLong, printoutOf};
-ghost use lib.ListN.{length, take};
+ghost use lib.ListN.{length, take, replicate};
 ghost use mathlib.Core.Bool.{true};
 ghost use mathlib.Core.List.{_++_};
 ghost use mathlib.Core.Path.{_≡_};
 use network::Network;
-use printout::Said;
+use protocol::Answer;
 use refusal::Refusal;
 use script::Reading;
 
@@ -33,13 +34,13 @@ struct Turned {
     progress: Progress,
 }
 
-fn put_line(text: &mut [u8], at: usize, ordinal: u32, what: Said) -> usize
+fn put_line(text: &mut [u8], at: usize, ordinal: u32, answer: Answer) -> usize
     requires { ⌜ at + 40 ≤ length (now text) ⌝ }
-    ensures { λ r. ⌜ take r (now (text .exit)) ≡ take at (now (text .entry)) ++ lineOf ordinal (said what) ⌝ }
+    ensures { λ r. ⌜ take r (now (text .exit)) ≡ take at (now (text .entry)) ++ lineOf ordinal (answered answer) ⌝ }
     ensures { λ r. ⌜ r ≤ at + 40 ⌝ }
 {
     let mut line = [0u8; 40];
-    let n = printout::line(ordinal, what, &mut line);
+    let n = printout::line(ordinal, answer, &mut line);
     text::append(text, at, &line[..n])
 }
 
@@ -67,7 +68,7 @@ fn turn(network: Network, script: &[u8], text: &mut [u8; 1048576], p: Progress) 
             progress: p,
         },
         Reading::Stopped(refusal) => {
-            let used = put_line(text, p.used, ordinal, Said::Refused(refusal));
+            let used = put_line(text, p.used, ordinal, Answer::Refused(refusal));
             let progress = Progress {
                 at: script.len(),
                 ordinal,
@@ -77,18 +78,32 @@ fn turn(network: Network, script: &[u8], text: &mut [u8; 1048576], p: Progress) 
             Turned { network, progress }
         }
         Reading::Next { record, after } => {
-            let performed = records::perform_formed(network, record);
-            let network = performed.network;
-            let what = performed.said;
-            let posted = p.posted + performed.posted;
-            let used = put_line(text, p.used, ordinal, what);
+            let called = records::perform_formed(network, record);
+            let report = called.report;
+            let answer = report.answer;
+            // A refusal leaves the record at once: it has changed nothing and posted nothing.
+            let Answer::Done(reply) = answer else {
+                let used = put_line(text, p.used, ordinal, answer);
+                let progress = Progress {
+                    at: after,
+                    ordinal,
+                    posted: p.posted,
+                    used,
+                };
+                return Turned { network, progress };
+            };
+            let next = called.network;
+            let used = put_line(text, p.used, ordinal, Answer::Done(reply));
             let progress = Progress {
                 at: after,
                 ordinal,
-                posted,
+                posted: p.posted + report.posted,
                 used,
             };
-            Turned { network, progress }
+            Turned {
+                network: next,
+                progress,
+            }
         }
     }
 }
@@ -138,18 +153,19 @@ fn refuse_script(text: &mut [u8], start: usize) -> usize
     ensures { λ r. ⌜ take r (now (text .exit)) ≡ tooLong ⌝ }
     ensures { λ r. ⌜ r ≤ 1_000_000 ⌝ }
 {
-    let used = put_line(text, start, 0, Said::Refused(Refusal::ScriptTooLong));
+    let used = put_line(text, start, 0, Answer::Refused(Refusal::ScriptTooLong));
     put_last(text, used, 0, 0)
 }
 
-// A buffer for a printout, as long as `printout` takes it.
+// A buffer for a printout, as long as `printout` takes it: all zeros.
 pub fn buffer() -> [u8; 1048576]
-    ensures { λ r. ⌜ 1_048_576 ≡ length r ⌝ }
+    ensures { λ r. ⌜ r ≡ replicate 1_048_576 0 ⌝ }
 {
     [0; 1048576]
 }
 
-// The printout of a whole script, and how many bytes it has. No printout is longer than the buffer.
+// The printout of a whole script, and how many bytes it has. No printout is longer than the buffer; what stands in the buffer past the
+// printout is left open.
 pub fn printout(script: &[u8], text: &mut [u8; 1048576]) -> usize
     ensures { λ r. ⌜ Counts r (now (text .exit)) ⌝ }
     ensures { λ r. ⌜ take r (now (text .exit)) ≡ printoutOf (now (script .entry)) ⌝ }

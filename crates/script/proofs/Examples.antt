@@ -3,8 +3,12 @@
 use Prim.Native.Nat.{ℕ, zero, suc}
 use mathlib.Core.Path.{_≡_, refl}
 use mathlib.Core.List.{List, [], _∷_}
-use Rattle.refusal.specs.Rules.{done, no as refusal}
-use Rattle.script.specs.Script.{Read, end, stop, next, declare, create, join, leave, deliver, owner, drain, readAt}
+use Rattle.refusal.specs.Code.{plain}
+use Rattle.serial.specs.declared.Serial.the-variants.{Value, BadDigit, TooLarge}
+use Rattle.protocol.specs.declared.Order.the-variants.{Create, Join, Leave}
+use Rattle.protocol.specs.declared.Call.the-variants.{Order, Deliver}
+use Rattle.script.specs.declared.Record.the-variants.{Call, Declare, Owner, Drain}
+use Rattle.script.specs.Script.{Read, end, stop, next, readAt}
 
 -- ---- the example script
 paperScript : List ℕ
@@ -35,50 +39,50 @@ readings (suc n) script at = readAt script at ∷ onward (readAt script at) (rea
 
 paper-script :
     readings 20 paperScript 0
-    ≡ next (declare (done 1_000)) 6
-    ∷ next (declare (done 2_000)) 12
-    ∷ next (create 0) 15
-    ∷ next (join 1 0 0) 20
-    ∷ next (deliver 0) 23
-    ∷ next (deliver 1) 26
-    ∷ next (leave 0) 29
-    ∷ next (deliver 1) 32
-    ∷ next (deliver 0) 35
-    ∷ next (deliver 0) 38
-    ∷ next (owner 0 (done 999)) 45
-    ∷ next (deliver 0) 48
+    ≡ next (Declare (Value 1_000)) 6
+    ∷ next (Declare (Value 2_000)) 12
+    ∷ next (Call (Order (Create 0))) 15
+    ∷ next (Call (Order (Join 1 0 0))) 20
+    ∷ next (Call (Deliver 0)) 23
+    ∷ next (Call (Deliver 1)) 26
+    ∷ next (Call (Order (Leave 0))) 29
+    ∷ next (Call (Deliver 1)) 32
+    ∷ next (Call (Deliver 0)) 35
+    ∷ next (Call (Deliver 0)) 38
+    ∷ next (Owner 0 (Value 999)) 45
+    ∷ next (Call (Deliver 0)) 48
     ∷ end
     ∷ []
 unfolding readAt readings paperScript
 paper-script = refl
 
 -- ---- "BC 00 00 12 34 is 1,234", "BN 00 00 12 34 is refused 4", "BC 00 00 00 0A is refused 3": the cursor goes on
-packed : readAt (0x42 ∷ 0x43 ∷ 0x00 ∷ 0x00 ∷ 0x12 ∷ 0x34 ∷ []) 0 ≡ next (declare (done 1_234)) 6
+packed : readAt (0x42 ∷ 0x43 ∷ 0x00 ∷ 0x00 ∷ 0x12 ∷ 0x34 ∷ []) 0 ≡ next (Declare (Value 1_234)) 6
 unfolding readAt
 packed = refl
 
-binary-too-large : readAt (0x42 ∷ 0x4e ∷ 0x00 ∷ 0x00 ∷ 0x12 ∷ 0x34 ∷ []) 0 ≡ next (declare (refusal 4)) 6
+binary-too-large : readAt (0x42 ∷ 0x4e ∷ 0x00 ∷ 0x00 ∷ 0x12 ∷ 0x34 ∷ []) 0 ≡ next (Declare TooLarge) 6
 unfolding readAt
 binary-too-large = refl
 
-bad-digit : readAt (0x42 ∷ 0x43 ∷ 0x00 ∷ 0x00 ∷ 0x00 ∷ 0x0a ∷ []) 0 ≡ next (declare (refusal 3)) 6
+bad-digit : readAt (0x42 ∷ 0x43 ∷ 0x00 ∷ 0x00 ∷ 0x00 ∷ 0x0a ∷ []) 0 ≡ next (Declare BadDigit) 6
 unfolding readAt
 bad-digit = refl
 
 -- ---- "2 bytes low first"
-low-byte-first : readAt (0x52 ∷ 0x44 ∷ 0x01 ∷ 0x02 ∷ []) 0 ≡ next (drain 513) 4
+low-byte-first : readAt (0x52 ∷ 0x44 ∷ 0x01 ∷ 0x02 ∷ []) 0 ≡ next (Drain 513) 4
 unfolding readAt
 low-byte-first = refl
 
 -- ---- 2 "record cut short (one byte of a mark too)"; 1 "unknown mark", as a mark's letters are capitals
-cut-in-the-mark : readAt (0x42 ∷ []) 0 ≡ stop 2
+cut-in-the-mark : readAt (0x42 ∷ []) 0 ≡ stop (plain 2)
 unfolding readAt
 cut-in-the-mark = refl
 
-cut-in-the-fields : readAt (0x52 ∷ 0x44 ∷ 0x01 ∷ []) 0 ≡ stop 2
+cut-in-the-fields : readAt (0x52 ∷ 0x44 ∷ 0x01 ∷ []) 0 ≡ stop (plain 2)
 unfolding readAt
 cut-in-the-fields = refl
 
-lower-case : readAt (0x62 ∷ 0x63 ∷ 0x00 ∷ 0x00 ∷ 0x12 ∷ 0x34 ∷ []) 0 ≡ stop 1
+lower-case : readAt (0x62 ∷ 0x63 ∷ 0x00 ∷ 0x00 ∷ 0x12 ∷ 0x34 ∷ []) 0 ≡ stop (plain 1)
 unfolding readAt
 lower-case = refl

@@ -7,33 +7,24 @@ use mathlib.Core.Bool.{Bool, false, _&&_, cond}
 use mathlib.Core.List.{List, [], _∷_, reverse}
 use lib.ListN.{length, getD, drop}
 use lib.Dec.{eqb, leb, ltb}
-use Rattle.refusal.specs.Code.{code}
-use Rattle.refusal.specs.Rules.{Coded}
-use Rattle.serial.specs.Serial.{coded, positional, packedOf, binaryOf}
+use Rattle.refusal.specs.Code.{Reason, plain, reason}
+use Rattle.serial.specs.Serial.{positional, packedOf, binaryOf}
+use Rattle.protocol.specs.declared.Order.the-variants.{Create as CreateOrder, Join as JoinOrder, Leave as LeaveOrder}
+use Rattle.protocol.specs.declared.Call.the-variants.{Order, Deliver as DeliverCall}
 use Rattle.script.specs.declared.Mark.{Mark}
 use Rattle.script.specs.declared.Mark.the-variants.{PackedDeclare, BinaryDeclare, Create, Join, Leave, Deliver, PackedOwner, BinaryOwner, Drain}
 use Rattle.script.specs.declared.Lookup.{Lookup}
 use Rattle.script.specs.declared.Lookup.the-variants.{Known, Unknown}
 use Rattle.script.specs.declared.Record.{Record}
-use Rattle.script.specs.declared.Record.the-variants.{Declare as DeclareRecord, Create as CreateRecord, Join as JoinRecord, Leave as LeaveRecord, Deliver as DeliverRecord, Owner as OwnerRecord, Drain as DrainRecord}
+use Rattle.script.specs.declared.Record.the-variants.{Call as CallRecord, Declare as DeclareRecord, Owner as OwnerRecord, Drain as DrainRecord}
 use Rattle.script.specs.declared.Reading.{Reading}
 use Rattle.script.specs.declared.Reading.the-variants.{End, Stopped, Next}
 
--- ---- what a record asks; a serial is a number, or the refusal that comes at its turn
-pub data Entry : Type 0 where
-  declare : Coded ℕ → Entry
-  create : ℕ → Entry
-  join : ℕ → ℕ → ℕ → Entry
-  leave : ℕ → Entry
-  deliver : ℕ → Entry
-  owner : ℕ → Coded ℕ → Entry
-  drain : ℕ → Entry
-
--- what is read at a cursor: a record and the cursor after it, or the number of a refusal that stops the reading
+-- what is read at a cursor: a record and the cursor after it, or the reason of a refusal that stops the reading
 pub data Read : Type 0 where
   end : Read
-  stop : ℕ → Read
-  next : Entry → ℕ → Read
+  stop : Reason → Read
+  next : Record → ℕ → Read
 
 -- ---- the table of marks
 abbrev pub spells : String → ℕ → ℕ → Bool
@@ -70,42 +61,34 @@ sizeOf Drain = 2
 abbrev pub four : List ℕ → ℕ → List ℕ
 four fields i = getD fields i 0 ∷ getD fields (i + 1) 0 ∷ getD fields (i + 2) 0 ∷ getD fields (i + 3) 0 ∷ []
 
-abbrev pub entryOf : Mark → List ℕ → Entry
-entryOf PackedDeclare fields = declare (packedOf (four fields 0))
-entryOf BinaryDeclare fields = declare (binaryOf (four fields 0))
-entryOf Create fields = create (getD fields 0 0)
-entryOf Join fields = join (getD fields 0 0) (getD fields 1 0) (getD fields 2 0)
-entryOf Leave fields = leave (getD fields 0 0)
-entryOf Deliver fields = deliver (getD fields 0 0)
-entryOf PackedOwner fields = owner (getD fields 0 0) (packedOf (four fields 1))
-entryOf BinaryOwner fields = owner (getD fields 0 0) (binaryOf (four fields 1))
+-- the record that the fields make; a serial in it is a number, or the refusal that comes at its turn
+abbrev pub recordOf : Mark → List ℕ → Record
+recordOf PackedDeclare fields = DeclareRecord (packedOf (four fields 0))
+recordOf BinaryDeclare fields = DeclareRecord (binaryOf (four fields 0))
+recordOf Create fields = CallRecord (Order (CreateOrder (getD fields 0 0)))
+recordOf Join fields = CallRecord (Order (JoinOrder (getD fields 0 0) (getD fields 1 0) (getD fields 2 0)))
+recordOf Leave fields = CallRecord (Order (LeaveOrder (getD fields 0 0)))
+recordOf Deliver fields = CallRecord (DeliverCall (getD fields 0 0))
+recordOf PackedOwner fields = OwnerRecord (getD fields 0 0) (packedOf (four fields 1))
+recordOf BinaryOwner fields = OwnerRecord (getD fields 0 0) (binaryOf (four fields 1))
 -- "2 bytes low first"
-entryOf Drain fields = drain (positional 256 (reverse (getD fields 0 0 ∷ getD fields 1 0 ∷ [])))
+recordOf Drain fields = DrainRecord (positional 256 (reverse (getD fields 0 0 ∷ getD fields 1 0 ∷ [])))
 
 -- ---- a record at a cursor
 -- 1 "unknown mark", 2 "record cut short"; `at` is the cursor after the mark
 abbrev pub readFields : Lookup → List ℕ → ℕ → Read
-readFields Unknown fields at = stop 1
-readFields (Known mark) fields at = cond (ltb (length fields) (sizeOf mark)) (stop 2) (next (entryOf mark fields) (at + sizeOf mark))
+readFields Unknown fields at = stop (plain 1)
+readFields (Known mark) fields at = cond (ltb (length fields) (sizeOf mark)) (stop (plain 2)) (next (recordOf mark fields) (at + sizeOf mark))
 
 -- 2 "(one byte of a mark too)"
 unfoldable pub readAt : List ℕ → ℕ → Read
 readAt script at =
     cond (leb (length script) at) end
-    (cond (ltb (length script) (at + 2)) (stop 2)
+    (cond (ltb (length script) (at + 2)) (stop (plain 2))
     (readFields (markOf (getD script at 0) (getD script (at + 1) 0)) (drop (at + 2) script) (at + 2)))
 
 -- ---- "Where an answer is an enum, a definition gives this paper's number and values for each case of the enum."
-abbrev pub entry : Record → Entry
-entry (DeclareRecord serial) = declare (coded serial)
-entry (CreateRecord u) = create u
-entry (JoinRecord u p q) = join u p q
-entry (LeaveRecord u) = leave u
-entry (DeliverRecord place) = deliver place
-entry (OwnerRecord start serial) = owner start (coded serial)
-entry (DrainRecord budget) = drain budget
-
 abbrev pub reading : Reading → Read
 reading End = end
-reading (Stopped r) = stop (code r)
-reading (Next r after) = next (entry r) after
+reading (Stopped r) = stop (reason r)
+reading (Next r after) = next r after

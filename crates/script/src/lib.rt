@@ -6,12 +6,14 @@ ghost use mathlib.Core.Bool.{cond, _&&_};
 ghost use mathlib.Core.List.{[], _∷_, reverse};
 ghost use lib.ListN.{getD};
 ghost use lib.Dec.{eqb};
-ghost use Rattle.serial.specs.Serial.{coded, packedOf, binaryOf, positional};
-ghost use Rattle.script.specs.Script.{markOf, sizeOf, four, entryOf, readAt, entry, reading};
+ghost use Rattle.serial.specs.Serial.{packedOf, binaryOf, positional};
+ghost use Rattle.script.specs.Script.{markOf, sizeOf, four, recordOf, readAt, reading};
+use protocol::Call;
+use protocol::Order;
 use refusal::Refusal;
 use serial::Serial;
 
-// The marks of the table in paper 01, by what their records ask and how a serial is written there.
+// The rows of paper 01's table of marks: which fields follow, and how a serial is written there.
 pub enum Mark {
     PackedDeclare,
     BinaryDeclare,
@@ -30,12 +32,10 @@ pub enum Lookup {
     Unknown,
 }
 
+// What a record asks: a call; a declaration, whose serial may be refused at its turn; the owner of a serial; a drain.
 pub enum Record {
+    Call(Call),
     Declare(Serial),
-    Create(u8),
-    Join { node: u8, left: u8, right: u8 },
-    Leave(u8),
-    Deliver(u8),
     Owner { start: u8, serial: Serial },
     Drain(u16),
 }
@@ -97,7 +97,7 @@ fn byte(fields: &[u8], i: usize) -> u8
 
 fn packed_at(fields: &[u8], i: usize) -> Serial
     requires { ⌜ i < 8 ⌝ }
-    ensures { λ r. ⌜ coded r ≡ packedOf (four (now (fields .entry)) i) ⌝ }
+    ensures { λ r. ⌜ r ≡ packedOf (four (now (fields .entry)) i) ⌝ }
 {
     serial::packed(
         byte(fields, i),
@@ -109,7 +109,7 @@ fn packed_at(fields: &[u8], i: usize) -> Serial
 
 fn binary_at(fields: &[u8], i: usize) -> Serial
     requires { ⌜ i < 8 ⌝ }
-    ensures { λ r. ⌜ coded r ≡ binaryOf (four (now (fields .entry)) i) ⌝ }
+    ensures { λ r. ⌜ r ≡ binaryOf (four (now (fields .entry)) i) ⌝ }
 {
     serial::binary(
         byte(fields, i),
@@ -127,19 +127,19 @@ fn two_bytes(low: u8, high: u8) -> u16
 }
 
 fn record_of(mark: Mark, fields: &[u8]) -> Record
-    ensures { λ r. ⌜ entry r ≡ entryOf mark (now (fields .entry)) ⌝ }
+    ensures { λ r. ⌜ r ≡ recordOf mark (now (fields .entry)) ⌝ }
 {
     match mark {
         Mark::PackedDeclare => Record::Declare(packed_at(fields, 0)),
         Mark::BinaryDeclare => Record::Declare(binary_at(fields, 0)),
-        Mark::Create => Record::Create(byte(fields, 0)),
-        Mark::Join => Record::Join {
+        Mark::Create => Record::Call(Call::Order(Order::Create(byte(fields, 0)))),
+        Mark::Join => Record::Call(Call::Order(Order::Join {
             node: byte(fields, 0),
             left: byte(fields, 1),
             right: byte(fields, 2),
-        },
-        Mark::Leave => Record::Leave(byte(fields, 0)),
-        Mark::Deliver => Record::Deliver(byte(fields, 0)),
+        })),
+        Mark::Leave => Record::Call(Call::Order(Order::Leave(byte(fields, 0)))),
+        Mark::Deliver => Record::Call(Call::Deliver(byte(fields, 0))),
         Mark::PackedOwner => Record::Owner {
             start: byte(fields, 0),
             serial: packed_at(fields, 1),

@@ -1,27 +1,29 @@
 -- Serials as paper 01 has them: "0 to 99,999,999", "packed BCD, high digits first", "binary, low byte first", and the refusals 3
--- and 4. Definitions only.
+-- and 4. What is read is a value, or which of the two refusals comes at the serial's turn. Definitions only.
 use Prim.Native.Nat.{ℕ, _+_, _*_, _/_, _%_, _^_}
-use mathlib.Core.Bool.{Bool, true, not, _&&_}
+use mathlib.Core.Bool.{Bool, true, _&&_, cond}
 use mathlib.Core.List.{List, [], _∷_, reverse}
 use lib.ListN.{length}
 use lib.Dec.{leb}
-use Rattle.refusal.specs.Code.{code}
-use Rattle.refusal.specs.Rules.{Coded, done, no, _when_, ruled}
+use Rattle.refusal.specs.Code.{plain}
+use Rattle.refusal.specs.Rules.{Coded, done, no}
 use Rattle.serial.specs.declared.Serial.{Serial}
-use Rattle.serial.specs.declared.Serial.the-variants.{Value, Refused}
+use Rattle.serial.specs.declared.Serial.the-variants.{Value, BadDigit, TooLarge}
 
 -- a serial is "0 to 99,999,999"
 abbrev pub inRange : ℕ → Bool
 inRange n = leb n 99_999_999
 
--- what an answer says, in the paper's numbers
+-- what a serial says at its turn, in the paper's numbers: 3 "a BCD digit above 9", 4 "a serial above 99,999,999, in binary or handed in as
+-- a number"
 abbrev pub coded : Serial → Coded ℕ
 coded (Value n) = done n
-coded (Refused r) = no (code r)
+coded BadDigit = no (plain 3)
+coded TooLarge = no (plain 4)
 
--- 4: "a serial above 99,999,999, in binary or handed in as a number"
-abbrev pub handedOf : ℕ → Coded ℕ
-handedOf n = ruled ((4 when not (inRange n)) ∷ []) no (done n)
+-- a serial handed in as a number
+abbrev pub handedOf : ℕ → Serial
+handedOf n = cond (inRange n) (Value n) TooLarge
 
 -- the value of digits in a base, the highest first: the sum of each times its power of the base
 abbrev pub positional : ℕ → List ℕ → ℕ
@@ -29,7 +31,7 @@ positional base [] = 0
 positional base (d ∷ ds) = d * base ^ length ds + positional base ds
 
 -- "4 bytes binary, low byte first"
-abbrev pub binaryOf : List ℕ → Coded ℕ
+abbrev pub binaryOf : List ℕ → Serial
 binaryOf bytes = handedOf (positional 256 (reverse bytes))
 
 -- "4 bytes packed BCD, high digits first": the digits, two to a byte
@@ -41,6 +43,5 @@ abbrev pub allDecimal : List ℕ → Bool
 allDecimal [] = true
 allDecimal (d ∷ ds) = leb d 9 && allDecimal ds
 
--- 3: "a BCD digit above 9"
-abbrev pub packedOf : List ℕ → Coded ℕ
-packedOf bytes = ruled ((3 when not (allDecimal (digits bytes))) ∷ []) no (done (positional 10 (digits bytes)))
+abbrev pub packedOf : List ℕ → Serial
+packedOf bytes = cond (allDecimal (digits bytes)) (Value (positional 10 (digits bytes))) BadDigit

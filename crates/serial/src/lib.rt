@@ -1,14 +1,15 @@
 // A cell's serial, from each of the forms that reach us: four bytes of packed BCD, four bytes of binary, a number handed in.
-// Each reader is total: it answers the serial or a refusal for every input.
+// Each reader is total: it answers the serial, or what is wrong with it, for every input.
 ghost use mathlib.Core.Path.{_≡_};
 ghost use Prim.Native.Nat.{_+_, _*_, _/_, _%_, _<_};
 ghost use mathlib.Core.List.{[], _∷_, reverse};
-ghost use Rattle.serial.specs.Serial.{inRange, coded, handedOf, packedOf, binaryOf, positional, digits, allDecimal};
-use refusal::Refusal;
+ghost use Rattle.serial.specs.Serial.{inRange, handedOf, packedOf, binaryOf, positional, digits, allDecimal};
 
+// A serial that was read, or why there is none: refusal 3 or 4, and no other.
 pub enum Serial {
     Value(u32),
-    Refused(Refusal),
+    BadDigit,
+    TooLarge,
 }
 
 pub fn in_range(value: u32) -> bool
@@ -19,12 +20,12 @@ pub fn in_range(value: u32) -> bool
 
 // A serial handed in as a number.
 pub fn handed(value: u32) -> Serial
-    ensures { λ r. ⌜ coded r ≡ handedOf value ⌝ }
+    ensures { λ r. ⌜ r ≡ handedOf value ⌝ }
 {
     if in_range(value) {
         Serial::Value(value)
     } else {
-        Serial::Refused(Refusal::SerialTooLarge)
+        Serial::TooLarge
     }
 }
 
@@ -42,7 +43,7 @@ fn binary_value(b0: u8, b1: u8, b2: u8, b3: u8) -> u32
 
 // Binary, low byte first.
 pub fn binary(b0: u8, b1: u8, b2: u8, b3: u8) -> Serial
-    ensures { λ r. ⌜ coded r ≡ binaryOf (b0 ∷ b1 ∷ b2 ∷ b3 ∷ []) ⌝ }
+    ensures { λ r. ⌜ r ≡ binaryOf (b0 ∷ b1 ∷ b2 ∷ b3 ∷ []) ⌝ }
 {
     handed(binary_value(b0, b1, b2, b3))
 }
@@ -74,11 +75,11 @@ fn packed_value(b0: u8, b1: u8, b2: u8, b3: u8) -> u32
 
 // Packed BCD, high digits first.
 pub fn packed(b0: u8, b1: u8, b2: u8, b3: u8) -> Serial
-    ensures { λ r. ⌜ coded r ≡ packedOf (b0 ∷ b1 ∷ b2 ∷ b3 ∷ []) ⌝ }
+    ensures { λ r. ⌜ r ≡ packedOf (b0 ∷ b1 ∷ b2 ∷ b3 ∷ []) ⌝ }
 {
     if all_packed(b0, b1, b2, b3) {
         Serial::Value(packed_value(b0, b1, b2, b3))
     } else {
-        Serial::Refused(Refusal::BadDigit)
+        Serial::BadDigit
     }
 }

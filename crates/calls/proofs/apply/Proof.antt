@@ -1,5 +1,6 @@
 -- `calls::apply` meets its contract: 6 where the network is not well formed, and else the call on one that is known to be. Assumes nothing.
-use mathlib.Core.Path.{sym, _∙_}
+use mathlib.Core.Path.{sym, ap, _∙_}
+use Rattle.calls.specs.Outcomes.{counted}
 use Rattle.calls.proofs.RunLaws.{malformed}
 use Rattle.calls.proofs.apply.Statement.{statement}
 use Rattle.calls.proofs.apply.Tie as tie
@@ -8,7 +9,7 @@ returns : tie.Need-returns
 returns c = c .apply-formed .ensures (sym (c .before .before .is-well-formed .ensures) ∙ c .before .if1 .taken)
 
 returns-2 : tie.Need-returns-2
-returns-2 c = c .refuse .ensures ∙ sym (malformed _ _ (sym (c .before .before .is-well-formed .ensures) ∙ c .before .if1 .left))
+returns-2 c = c .refuse .ensures ∙ ap counted (sym (malformed _ _ (sym (c .before .before .is-well-formed .ensures) ∙ c .before .if1 .left)))
 
 pub apply-spec : {M : Type 1} → statement M
 apply-spec = tie.close (tie.spec (λ c κs. tt) (λ c κs. tt) (λ c κs. tt) returns returns-2)

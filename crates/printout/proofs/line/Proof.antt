@@ -5,22 +5,23 @@ use lib.ListN.{length}
 use Prim.Native.Nat.{_+_, _≤_}
 use borrow.Author.Needs.{needs}
 use Rattle.text.proofs.Laws.{put, put-four, put-at-start}
-use Rattle.printout.specs.Lines.{said, lineOf}
+use Rattle.printout.specs.Lines.{lineOf}
+use Rattle.protocol.specs.Answer.{answered}
 use Rattle.printout.proofs.Laws.{short-line, after-ordinal}
 use Rattle.printout.proofs.line.Statement.{statement}
 use Rattle.printout.proofs.line.Tie as tie
 
-put-words-requires : tie.Need-put-words-requires
-put-words-requires c κs =
+put-answer-requires : tie.Need-put-answer-requires
+put-answer-requires c κs =
     after-ordinal (omega arith) (put (c .before .before .before .before .append-decimal .ensures)) (put (c .before .append .ensures)) (omega arith)
 
 returns : tie.Need-returns
 unfolding lineOf
 returns c =
     let a = c .before .before .before .before .before .before .before .before .before .before .args in
-    let (words-put, few) = c .before .before .before .put-words .ensures in
-    let short = short-line (a .ordinal) (said (a .what)) (omega arith) few in
-    let room : 0 + length (lineOf (a .ordinal) (said (a .what))) ≤ length (a .line .now) = omega (arith, short) in
+    let (words-put, few) = c .before .before .before .put-answer .ensures in
+    let short = short-line (a .ordinal) (answered (a .answer)) (omega arith) few in
+    let room : 0 + length (lineOf (a .ordinal) (answered (a .answer))) ≤ length (a .line .now) = omega (arith, short) in
     let (counts, reads) =
     put-at-start room
     (put-four
@@ -38,7 +39,7 @@ line-spec =
     (λ c κs. search needs)
     (λ c. search needs)
     (λ c κs. search needs)
-    put-words-requires
+    put-answer-requires
     (λ c. search needs)
     (λ c κs. search needs)
     returns)

@@ -4,7 +4,7 @@ use mathlib.Core.Bool.{true}
 use borrow.Author.Needs.{needs}
 use borrow.Author.Tests.{not-true, not-false}
 use Rattle.network.specs.Arrays.{wellFormed}
-use Rattle.questions.specs.Answers.{membersOf}
+use Rattle.questions.specs.Answers.{insertedOf}
 use Rattle.network.proofs.Lengths.{lengths}
 use Rattle.network.proofs.ArrayLaws.{formed}
 use Rattle.questions.proofs.InsertedLaws.{members-live}
@@ -15,7 +15,7 @@ well-formed : (c : tie.Else1) → wellFormed (c .before .before .args .network) 
 well-formed c = sym (c .before .is-well-formed .ensures) ∙ not-false _ (c .if1 .left)
 
 returns : tie.Need-returns
-unfolding membersOf
+unfolding insertedOf
 returns c = rw (sym (c .before .is-well-formed .ensures) ∙ not-true _ (c .if1 .taken))
 
 acknowledged-requires : tie.Need-acknowledged-requires

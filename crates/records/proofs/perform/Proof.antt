@@ -10,7 +10,7 @@ returns c = c .perform-formed .ensures (sym (c .before .before .is-well-formed .
 
 returns-2 : tie.Need-returns-2
 unfolding performOf
-returns-2 c = rw (sym (c .before .before .is-well-formed .ensures) ∙ c .before .if1 .left) (c .refuse .ensures)
+returns-2 c = rw (sym (c .before .before .is-well-formed .ensures) ∙ c .before .if1 .left) (c .told .ensures)
 
 pub perform-spec : {M : Type 1} → statement M
 perform-spec = tie.close (tie.spec (λ c κs. tt) (λ c κs. tt) (λ c κs. tt) returns returns-2)

@@ -4,6 +4,7 @@ use mathlib.Core.List.{List, _++_}
 use Prim.Native.Nat.{ℕ}
 use native.Mathlib.Omega.{arith}
 use borrow.Author.Needs.{needs}
+use Rattle.refusal.specs.Code.{plain}
 use Rattle.refusal.specs.Rules.{no}
 use Rattle.printout.specs.Lines.{lineOf, lastLine}
 use Rattle.runner.proofs.refuse_script.Statement.{statement}
@@ -16,7 +17,7 @@ returns c =
     let start = line .before .before .before in
     let (refused, few) = line .put-line .ensures in
     let (closed, short) = last .put-last .ensures in (
-      closed ∙ ap (λ (l : List ℕ). l ++ lastLine 0 0) (refused ∙ ap (λ (l : List ℕ). l ++ lineOf 0 (no 7)) (start .pre .0)),
+      closed ∙ ap (λ (l : List ℕ). l ++ lastLine 0 0) (refused ∙ ap (λ (l : List ℕ). l ++ lineOf 0 (no (plain 7))) (start .pre .0)),
       omega (arith, few, short),
     )
 

@@ -62,7 +62,7 @@ use Rattle.runner.specs.declared.Progress.{Progress}
 use Rattle.runner.specs.Run.{after, closed, sizeLimit}
 use Rattle.runner.proofs.Progress as P
 use Rattle.runner.proofs.Progress.Laws as P′
-use Rattle.runner.proofs.Walking.{by-cases, seen, had, returned, is-val, at-val, typed}
+use Rattle.network.proofs.Walking.{by-cases, seen, had, returned, is-val, at-val, typed}
 use Rattle.runner.proofs.Rows.{Text, networkVal, progressVal, lies, cell, lies-in, lies-out}
 use Rattle.runner.proofs.StepLaws.{State}
 use Rattle.runner.proofs.LoopLaws.{Turn, begun, first-turn, room, may-step, next-cursor, next-turn, whole-printout}

@@ -50,7 +50,7 @@ use Rattle.runner.proofs.Turned as T
 use Rattle.runner.proofs.Turned.Laws as T′
 use Rattle.runner.proofs.Rows.{Text, networkVal, progressVal, lies, cell, lies-in, lies-out}
 use Rattle.runner.proofs.StepLaws.{State, MayStep, Stepped}
-use Rattle.runner.proofs.Walking.{seen, had, returned, is-val, typed}
+use Rattle.network.proofs.Walking.{seen, had, returned, is-val, typed}
 use Rattle.runner.proofs.turn as turn
 use Rattle.runner.proofs.turn.Symbol as turn-def
 use Rattle.runner.proofs.turn.Symbol.{name as #runner·turn}

@@ -1,6 +1,6 @@
 -- `calls::draining::run` meets its contract: after each turn the drain is underway (`DrainLaws`), and where nothing waits, or the budget
 -- is spent, it is finished. The measure is what is left of the budget. Assumes nothing.
-use Prim.Native.Nat.{_+_, _-_, _≤_, _<_}
+use Prim.Native.Nat.{_+_, _*_, _-_, _≤_, _<_}
 use mathlib.Core.Path.{_≡_, sym, ap, _∙_}
 use mathlib.Core.Logic.{⊎-elim}
 use mathlib.Core.Bool.{true}
@@ -11,10 +11,8 @@ use borrow.Author.Tests.{leb-true, not-true, not-false}
 use lib.ListN.{length, getD}
 use Rattle.truth.proofs.Laws.{true-is-not-false}
 use Rattle.truth.proofs.TestLaws.{holds}
-use Rattle.refusal.specs.Rules.{done}
 use Rattle.sequence.specs.Sequence.{firstSeq}
 use Rattle.node.specs.Actions.{effect}
-use Rattle.protocol.specs.declared.Reply.{Reply}
 use Rattle.protocol.specs.Calls.{messageAt, receiving}
 use Rattle.protocol.specs.Drain.{lowest, places}
 use Rattle.protocol.proofs.Drains.{lowest-can, places-none}
@@ -31,13 +29,13 @@ use Rattle.calls.proofs.draining.run.Statement.{statement}
 use Rattle.calls.proofs.draining.run.Tie as tie
 
 abbrev Inv-loop : tie.InvT-loop
-Inv-loop budget n₀ made₀ n made = (n .count ≤ 32) × (n .waiting ≤ 64) × (made ≤ budget) × (wellFormed n₀ ≡ true → Underway n₀ budget n made)
+Inv-loop budget n₀ made₀ posted₀ n made posted = (n .count ≤ 32) × (n .waiting ≤ 64) × (made ≤ budget) × (posted ≤ 2 * made) × (wellFormed n₀ ≡ true → Underway n₀ budget n made posted)
 
 abbrev μ-loop : tie.MeasureT-loop
-μ-loop budget n₀ made₀ n made = budget - made
+μ-loop budget n₀ made₀ posted₀ n made posted = budget - made
 
 loop-holds : tie.Need-loop-holds Inv-loop μ-loop
-loop-holds c = (c .pre .0, c .pre .1, omega arith, λ h. begins _ (c .args .budget) (lengths _ _ (c .good .0)) h)
+loop-holds c = (c .pre .0, c .pre .1, omega arith, omega arith, λ h. begins _ (c .args .budget) (lengths _ _ (c .good .0)) h)
 
 -- where the place is settled
 abbrev chosen : tie.After-receive Inv-loop μ-loop → tie.Joined2 Inv-loop μ-loop
@@ -59,7 +57,7 @@ step : (r : tie.After-receive Inv-loop μ-loop) → let t = turn (chosen r) in w
 unfolding firstSeq
 step r h =
     let t = turn (chosen r) in
-    let u = t .loop .inv .3 h in
+    let u = t .loop .inv .4 h in
     r .receive .ensures ∙ received-here (t .loop .n) (u .arrays) (u .well-formed) (chosen r .if2 .place) zeroMessage vacantNode (within (chosen r))
 
 -- and that place is the lowest where a delivery is to be had
@@ -67,7 +65,7 @@ settled : (r : tie.After-receive Inv-loop μ-loop) → let t = turn (chosen r) i
 settled r h =
     let j = chosen r in
     let n = turn j .loop .n in
-    let u = turn j .loop .inv .3 h in
+    let u = turn j .loop .inv .4 h in
     ⊎-elim {C = lowest (live n) ≡ some (j .if2 .place)}
     (λ w. w .1 .ensures .1 (u .well-formed) ∙ ap some (sym (w .2)))
     (λ w.
@@ -77,11 +75,10 @@ settled r h =
 
 returns : tie.Need-returns Inv-loop μ-loop
 returns c h =
-    let loop = c .before .before in
-    let u = loop .loop .inv .3 h in
-    let nothing = messages-length (loop .loop .n) (u .arrays) (u .well-formed) ∙ c .if1 .taken in
-    ap (λ left. record { network = loop .loop .n; said = done (record { made = loop .loop .made; left = left }) }) (sym (c .if1 .taken))
-    ∙ finished u h (places-none (loop .before .args .budget - loop .loop .made) (live (loop .loop .n)) nothing)
+    let loop = c .before .before .before in
+    let u = loop .loop .inv .4 h in
+    let nothing = messages-length (loop .loop .n) (u .arrays) (u .well-formed) ∙ c .before .if1 .taken in
+    c .ran .ensures ∙ finished u h (places-none (loop .before .args .budget - loop .loop .made) (live (loop .loop .n)) nothing)
 
 element-copy-out-message : tie.Need-element-copy-out-message Inv-loop μ-loop
 element-copy-out-message c = omega (arith, within (c .before), c .before .before .before .before .loop .inv .1)
@@ -90,7 +87,7 @@ returns-2 : tie.Need-returns-2 Inv-loop μ-loop
 returns-2 c h =
     let j = c .before .before .before .before in
     let n = turn j .loop .n in
-    let u = turn j .loop .inv .3 h in
+    let u = turn j .loop .inv .4 h in
     absurd (omega (arith, few-nodes n (u .arrays) (u .well-formed), addressee-read n (u .arrays) (u .well-formed) (j .if2 .place) zeroMessage (within j), c .before .if3 .taken))
 
 returns-3 : tie.Need-returns-3 Inv-loop μ-loop
@@ -99,7 +96,7 @@ returns-3 c h =
     let r = tested .before .before in
     let j = chosen r in
     let n = turn j .loop .n in
-    let u = turn j .loop .inv .3 h in
+    let u = turn j .loop .inv .4 h in
     let some-live : 0 < length (live n .messages) = omega (arith, some-wait j, messages-length n (u .arrays) (u .well-formed)) in
     let can = lowest-can (live n) (holds (lists-tested n (u .arrays) (u .well-formed))) some-live (j .if2 .place) (settled r h) in
     let room = delivers-here n (u .arrays) (u .well-formed) (j .if2 .place) (effect (r .receive .result)) (within j) (step r h) ∙ can in
@@ -117,11 +114,20 @@ post-requires : tie.Need-post-requires Inv-loop μ-loop
 post-requires c κs = room (c .before .before)
 
 -- the turn is over
-less : (c : tie.After-length-of Inv-loop μ-loop) → let r = c .before .before .before .before .before .before .before in turn (chosen r) .loop .n .waiting - 1 + c .length-of .result ≤ 64
-less c = omega (arith, room (c .before .before .before .before), c .length-of .ensures)
+less : (c : tie.After-count Inv-loop μ-loop) → let r = c .before .before .before .before .before .before .before in turn (chosen r) .loop .n .waiting - 1 + c .count .result ≤ 64
+less c = omega (arith, room (c .before .before .before .before), c .count .ensures)
 
 add-n : tie.Need-add-n Inv-loop μ-loop
 add-n c = record { fits = omega (arith, less c) }
+
+-- two messages at most
+few : (c : tie.After-count Inv-loop μ-loop) → c .count .result ≤ 2
+few c = omega (arith, c .count .ensures, few-posts (c .before .before .before .before .before .before .before .receive .result .posts))
+
+add-posted : tie.Need-add-posted Inv-loop μ-loop
+add-posted c =
+    let t = turn (chosen (c .before .before .before .before .before .before .before)) in
+    omega (arith, few c, t .loop .inv .3, t .loop .inv .2)
 
 loop-again : tie.Need-loop-again Inv-loop μ-loop
 loop-again c =
@@ -132,22 +138,24 @@ loop-again c =
     let place = j .if2 .place in
     let e = effect (r .receive .result) in
     let m = getD (n .messages) place zeroMessage in
-    let arrays = delivered-arrays n place (m .to) (e .node) (e .posts) (some-wait j) (c .before .before .close .ensures) (c .before .post .ensures) (c .length-of .ensures) in (
+    let arrays = delivered-arrays n place (m .to) (e .node) (e .posts) (some-wait j) (c .before .before .close .ensures) (c .before .post .ensures) (c .count .ensures) in (
       t .loop .inv .0,
       less c,
       omega (arith, j .before .before .loop-test .taken),
+      omega (arith, few c, t .loop .inv .3),
       λ h.
-          let u = t .loop .inv .3 h in
+          let u = t .loop .inv .4 h in
           let delivered = delivered-there n (u .arrays) (u .well-formed) place zeroMessage e (within j) (room (c .before .before .before .before)) (step r h) in
-          goes-on u place _ (j .before .before .loop-test .taken) (settled r h) (arrays ∙ ap (λ (a : Applied Reply). a .network) delivered),
+          goes-on u place _ _ (j .before .before .loop-test .taken) (settled r h) (arrays ∙ ap (λ (a : Applied). a .network) delivered)
+          (c .count .ensures ∙ ap (λ (a : Applied). length (a .posts)) delivered),
     )
 
 returns-4 : tie.Need-returns-4 Inv-loop μ-loop
 returns-4 c h =
-    let loop = c .before in
-    let u = loop .loop .inv .3 h in
-    let spent : loop .before .args .budget - loop .loop .made ≡ 0 = omega (arith, c .loop-test .left) in
-    finished u h (ap (λ k. places k (live (loop .loop .n))) spent)
+    let loop = c .before .before in
+    let u = loop .loop .inv .4 h in
+    let spent : loop .before .args .budget - loop .loop .made ≡ 0 = omega (arith, c .before .loop-test .left) in
+    c .ran2 .ensures ∙ finished u h (ap (λ k. places k (live (loop .loop .n))) spent)
 
 pub run-spec : {M : Type 1} → statement M
 run-spec =
@@ -156,6 +164,7 @@ run-spec =
     Inv-loop
     μ-loop
     loop-holds
+    (λ c κs. tt)
     returns
     (λ c κs. search needs)
     (λ c. search needs)
@@ -179,6 +188,9 @@ run-spec =
     (λ c κs. search needs)
     add-n
     (λ c. search needs)
+    add-posted
+    (λ c. search needs)
     (λ c. search needs)
     loop-again
+    (λ c κs. tt)
     returns-4)

@@ -3,6 +3,7 @@ use mathlib.Core.Path.{ap, _∙_}
 use mathlib.Core.Bool.{not, cond}
 use mathlib.Core.Option.{none, some}
 use borrow.Author.Needs.{needs}
+use Rattle.refusal.specs.Code.{plain}
 use lib.Dec.{ltb}
 use Rattle.node.specs.Shape.{capacity}
 use Rattle.calls.proofs.formed.check_declare.Statement.{statement}
@@ -13,9 +14,9 @@ returns c =
     let tests = c .before .before .before in
     let ranged = tests .before in
     let n = ranged .before .before .args .network in
-    let taken = c .before .before .rule .ensures ∙ ap (λ b. cond (not b) (some 21) none) (tests .key-is-new .ensures) in
-    let full = c .before .rule2 .ensures ∙ ap (cond (not (ltb (n .count) capacity)) (some 20)) taken in
-    c .rule3 .ensures ∙ (λ i. cond (not (ranged .in-range .ensures i)) (some 4) (full i))
+    let taken = c .before .before .rule .ensures ∙ ap (λ b. cond (not b) (some (plain 21)) none) (tests .key-is-new .ensures) in
+    let full = c .before .rule2 .ensures ∙ ap (cond (not (ltb (n .count) capacity)) (some (plain 20))) taken in
+    c .rule3 .ensures ∙ (λ i. cond (not (ranged .in-range .ensures i)) (some (plain 4)) (full i))
 
 pub check-declare-spec : {M : Type 1} → statement M
 check-declare-spec =

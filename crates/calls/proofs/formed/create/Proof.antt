@@ -7,7 +7,8 @@ use borrow.Author.Needs.{needs}
 use lib.ListN.{length}
 use Rattle.sequence.specs.Sequence.{firstSeq}
 use Rattle.node.specs.Actions.{Effect, effect, createOf}
-use Rattle.protocol.specs.declared.Call.the-variants.{Create}
+use Rattle.protocol.specs.declared.Order.the-variants.{Create}
+use Rattle.protocol.specs.declared.Call.the-variants.{Order}
 use Rattle.protocol.specs.State.{nodeAt}
 use Rattle.protocol.specs.Calls.{commit}
 use Rattle.network.specs.Arrays.{vacantNode, live, wellFormed}
@@ -51,7 +52,7 @@ returns-2 c h =
     let n = s .args .t1 in
     let l = lengths _ _ (s .good .0) in
     c .refuse2 .ensures
-    ∙ refuses-by n l h (Create (s .args .number)) (checked .check-create .ensures ∙ create-says n l h (s .args .number) (checked .before .if1 .left)) (c .before .before .refusal .given .1)
+    ∙ refuses-by n l h (Order (Create (s .args .number))) (checked .check-create .ensures ∙ create-says n l h (s .args .number) (checked .before .if1 .left)) (c .before .before .refusal .given .1)
 
 returns-3 : tie.Need-returns-3
 returns-3 c h =
@@ -62,7 +63,7 @@ returns-3 c h =
     let l = lengths _ _ (s .good .0) in
     let known = checked .before .if1 .left in
     c .commit .ensures
-    ∙ committed-by n l h (Create (s .args .number)) (s .args .number) (effect (made .create .result)) known (omega (arith, quiet made, s .pre .1))
+    ∙ committed-by n l h (Order (Create (s .args .number))) (s .args .number) (effect (made .create .result)) known (omega (arith, quiet made, s .pre .1))
     (ap (commit (live n) (s .args .number) (live n .messages)) (sym (step made h))) (checked .check-create .ensures ∙ create-says n l h (s .args .number) known) (made .before .before .enum-told .given .1)
 
 pub create-spec : {M : Type 1} → statement M

@@ -3,7 +3,8 @@
 use mathlib.Core.Path.{ap, _∙_}
 use borrow.Author.Needs.{needs}
 use Rattle.refusal.specs.Rules.{done}
-use Rattle.protocol.specs.declared.Call.the-variants.{Declare}
+use Rattle.protocol.specs.declared.Order.the-variants.{Declare}
+use Rattle.protocol.specs.declared.Call.the-variants.{Order}
 use Rattle.protocol.specs.declared.Reply.the-variants.{Declared}
 use Rattle.calls.specs.Changes.{added}
 use Rattle.network.proofs.Lengths.{lengths}
@@ -23,7 +24,7 @@ returns c h =
     let start = called .before in
     let n = start .args .network in
     let l = lengths _ _ (start .good .0) in
-    c .refuse .ensures ∙ refuses-by n l h (Declare (start .args .key)) (called .check-declare .ensures ∙ declare-says n l h (start .args .key)) (c .before .before .refusal .given .1)
+    c .refuse .ensures ∙ refuses-by n l h (Order (Declare (start .args .key))) (called .check-declare .ensures ∙ declare-says n l h (start .args .key)) (c .before .before .refusal .given .1)
 
 returns-2 : tie.Need-returns-2
 returns-2 c h =
@@ -32,7 +33,7 @@ returns-2 c h =
     let start = called .before in
     let n = start .args .network in
     let network = c .add .ensures ∙ ap (added n) (c .before .declared .ensures) in
-    (λ i. record { network = network i; said = done (Declared (n .count) (start .args .key)) })
+    (λ i. record { network = network i; posted = 0; said = done (Declared (n .count) (start .args .key)) })
     ∙ added-by n (lengths _ _ (start .good .0)) h (start .args .key) (called .check-declare .ensures) (told .enum-told .given .1)
 
 pub declare-spec : {M : Type 1} → statement M

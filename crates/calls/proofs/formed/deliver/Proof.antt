@@ -1,7 +1,7 @@
 -- `calls::formed::deliver` meets its contract: 29 where no message waits; else the check says what the rules say, and either way the
 -- call is the definition's. That a message is for no node is not met on a well-formed network. Assumes nothing.
 use Prim.Native.Nat.{_-_}
-use mathlib.Core.Path.{_≡_, _∙_}
+use mathlib.Core.Path.{_≡_, ap, _∙_}
 use mathlib.Core.Bool.{true}
 use native.Mathlib.Omega.{arith}
 use borrow.Author.Needs.{needs}
@@ -12,6 +12,7 @@ use Rattle.protocol.specs.Calls.{messageAt, receiving}
 use Rattle.network.specs.Arrays.{vacantNode, live, wellFormed}
 use Rattle.network.proofs.Lengths.{Lengths, lengths}
 use Rattle.network.proofs.Places.{zeroMessage}
+use Rattle.calls.specs.Outcomes.{counted}
 use Rattle.calls.proofs.CallLaws.{few-nodes, addressee-read, received-here, no-message, deliver-says-here, room-cleared, refuses-by, delivered-by}
 use Rattle.calls.proofs.formed.deliver.Statement.{statement}
 use Rattle.calls.proofs.formed.deliver.Tie as tie
@@ -64,9 +65,9 @@ returns-4 : tie.Need-returns-4
 returns-4 c h =
     let k = c .before .before .before .before in
     let start = waits k .before in
-    (λ i. record { network = c .before .delivered .ensures i; said = c .answer-of .ensures i })
-    ∙ delivered-by (start .args .t1) (lengths _ _ (start .good .0)) h (start .args .place) zeroMessage (effect (acted k .receive .result)) (waits k .if1 .left) (step k h) (k .check-room .ensures)
-    (c .before .before .enum-told .given .1)
+    (λ i. record { network = c .before .delivered .ensures i; posted = c .report-of .ensures .1 i; said = c .report-of .ensures .0 i })
+    ∙ ap counted (delivered-by (start .args .t1) (lengths _ _ (start .good .0)) h (start .args .place) zeroMessage (effect (acted k .receive .result)) (waits k .if1 .left) (step k h) (k .check-room .ensures)
+    (c .before .before .enum-told .given .1))
 
 pub deliver-spec : {M : Type 1} → statement M
 deliver-spec =

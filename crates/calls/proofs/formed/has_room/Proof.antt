@@ -8,7 +8,7 @@ add-result : tie.Need-add-result
 add-result c = omega (arith, few-posts (c .before .args .posts))
 
 returns : tie.Need-returns
-returns c = simp (c .length-of .ensures)
+returns c = simp (c .count .ensures)
 
 pub has-room-spec : {M : Type 1} → statement M
 has-room-spec = tie.close (tie.spec (λ c κs. tt) add-result returns)

@@ -7,6 +7,7 @@ use mathlib.Core.List.{List, _∷_}
 use mathlib.Core.Option.{some}
 use native.Mathlib.Omega.{arith}
 use borrow.Author.Needs.{needs}
+use Rattle.refusal.specs.Code.{plain}
 use borrow.Author.Tests.{leb-true, ltb-true, not-true, not-false}
 use lib.ListN.{length}
 use lib.Dec.{ltb}
@@ -16,11 +17,12 @@ use Rattle.refusal.proofs.Laws.{cleared}
 use Rattle.sequence.specs.Sequence.{firstSeq}
 use Rattle.node.specs.declared.Node.{Node}
 use Rattle.node.specs.Actions.{effect, joinOf}
-use Rattle.protocol.specs.declared.Call.the-variants.{Join}
+use Rattle.protocol.specs.declared.Order.the-variants.{Join}
+use Rattle.protocol.specs.declared.Call.the-variants.{Order}
 use Rattle.protocol.specs.State.{nodeAt, noticeWaits}
 use Rattle.protocol.specs.Calls.{commit, peerAt, joinRules}
 use Rattle.network.specs.Arrays.{vacantNode, live, wellFormed}
-use Rattle.calls.specs.Changes.{afterStep, roomRules}
+use Rattle.calls.specs.Computed.{afterStep, roomRules}
 use Rattle.network.proofs.Lengths.{lengths}
 use Rattle.network.proofs.LiveLaws.{node-live}
 use Rattle.calls.proofs.CallLaws.{join-undeclared, join-says-here, rest-cleared, refuses-by, committed-by}
@@ -68,7 +70,7 @@ put : (c : tie.After-after-step) → checked (c .after-step .result) ≡ afterSt
 put c =
     c .after-step .ensures
     ∙ ap (afterStep (effect (joined c .join .result) .said))
-    (c .before .rule .ensures ∙ (λ i. cond (c .before .before .before .notice-waits .ensures i) (some 25) (c .before .before .check-room .ensures i)))
+    (c .before .rule .ensures ∙ (λ i. cond (c .before .before .before .notice-waits .ensures i) (some (plain 25)) (c .before .before .check-room .ensures i)))
 
 says : (c : tie.After-after-step) → let args = declared (joined c) .before .args in wellFormed (args .t1) ≡ true →
     checked (c .after-step .result) ≡ first (joinRules (live (args .t1)) (args .number) (args .left) (args .right))
@@ -110,7 +112,7 @@ returns-2 c h =
     let told = c .before .before .before .before in
     let start = declared (joined told) .before in
     c .refuse2 .ensures
-    ∙ refuses-by (start .args .t1) (lengths _ _ (start .good .0)) h (Join (start .args .number) (start .args .left) (start .args .right)) (says told h) (c .before .before .refusal .given .1)
+    ∙ refuses-by (start .args .t1) (lengths _ _ (start .good .0)) h (Order (Join (start .args .number) (start .args .left) (start .args .right))) (says told h) (c .before .before .refusal .given .1)
 
 returns-3 : tie.Need-returns-3
 returns-3 c h =
@@ -119,7 +121,7 @@ returns-3 c h =
     let start = declared j .before in
     let n = start .args .t1 in
     c .commit .ensures
-    ∙ committed-by n (lengths _ _ (start .good .0)) h (Join (start .args .number) (start .args .left) (start .args .right)) (start .args .number) (effect (j .join .result)) (known (declared j) .number) (room (c .before))
+    ∙ committed-by n (lengths _ _ (start .good .0)) h (Order (Join (start .args .number) (start .args .left) (start .args .right))) (start .args .number) (effect (j .join .result)) (known (declared j) .number) (room (c .before))
     (ap (commit (live n) (start .args .number) (live n .messages)) (sym (step j h))) (says told h) (c .before .enum-told .given .1)
 
 pub join-spec : {M : Type 1} → statement M

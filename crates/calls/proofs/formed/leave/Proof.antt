@@ -9,11 +9,12 @@ use lib.ListN.{length}
 use Rattle.refusal.specs.Rules.{first, checked}
 use Rattle.sequence.specs.Sequence.{firstSeq}
 use Rattle.node.specs.Actions.{effect, leaveOf}
-use Rattle.protocol.specs.declared.Call.the-variants.{Leave}
+use Rattle.protocol.specs.declared.Order.the-variants.{Leave}
+use Rattle.protocol.specs.declared.Call.the-variants.{Order}
 use Rattle.protocol.specs.State.{nodeAt}
 use Rattle.protocol.specs.Calls.{commit, leaveRules}
 use Rattle.network.specs.Arrays.{vacantNode, live, wellFormed}
-use Rattle.calls.specs.Changes.{afterStep, roomRules}
+use Rattle.calls.specs.Computed.{afterStep, roomRules}
 use Rattle.network.proofs.Lengths.{lengths}
 use Rattle.network.proofs.LiveLaws.{node-live}
 use Rattle.calls.proofs.CallLaws.{leave-undeclared, leave-says-here, rest-cleared, room-cleared-by, refuses-by, committed-by}
@@ -60,7 +61,7 @@ returns-2 c h =
     let told = c .before .before .before .before in
     let start = told .before .before .before .before .before in
     c .refuse2 .ensures
-    ∙ refuses-by (start .args .t1) (lengths _ _ (start .good .0)) h (Leave (start .args .number)) (says told h) (c .before .before .refusal .given .1)
+    ∙ refuses-by (start .args .t1) (lengths _ _ (start .good .0)) h (Order (Leave (start .args .number))) (says told h) (c .before .before .refusal .given .1)
 
 returns-3 : tie.Need-returns-3
 returns-3 c h =
@@ -69,7 +70,7 @@ returns-3 c h =
     let start = left .before .before .before in
     let n = start .args .t1 in
     c .commit .ensures
-    ∙ committed-by n (lengths _ _ (start .good .0)) h (Leave (start .args .number)) (start .args .number) (effect (left .leave .result)) (left .before .before .if1 .left) (room (c .before))
+    ∙ committed-by n (lengths _ _ (start .good .0)) h (Order (Leave (start .args .number))) (start .args .number) (effect (left .leave .result)) (left .before .before .if1 .left) (room (c .before))
     (ap (commit (live n) (start .args .number) (live n .messages)) (sym (step left h))) (says told h) (c .before .enum-told .given .1)
 
 pub leave-spec : {M : Type 1} → statement M

@@ -11,7 +11,7 @@ returns : tie.Need-returns
 returns c =
     let start = c .before .before .before .before in
     delivered-arrays (start .args .network) (start .args .place) (start .args .number) (start .args .node) (listed (start .args .posts)) (omega arith) (c .before .before .close .ensures)
-    (c .before .post .ensures) (c .length-of .ensures)
+    (c .before .post .ensures) (c .count .ensures)
 
 pub delivered-spec : {M : Type 1} → statement M
 delivered-spec =

@@ -9,7 +9,7 @@ returns : tie.Need-returns
 returns c =
     let start = c .before .before .before in
     let n = start .args .network in
-    λ i. record { nodes = set (n .nodes) (start .args .number) (start .args .node); count = n .count; messages = c .before .post .ensures i; waiting = n .waiting + c .length-of .ensures i }
+    λ i. record { nodes = set (n .nodes) (start .args .number) (start .args .node); count = n .count; messages = c .before .post .ensures i; waiting = n .waiting + c .count .ensures i }
 
 pub stepped-spec : {M : Type 1} → statement M
 stepped-spec =

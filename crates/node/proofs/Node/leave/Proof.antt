@@ -4,6 +4,7 @@ use borrow.Author.Needs.{needs}
 use mathlib.Core.Path.{_∙_, sym, ap}
 use Rattle.refusal.proofs.Laws.{on-refuse, on-clear}
 use Rattle.refusal.specs.Rules.{checked}
+use Rattle.sequence.specs.Sequence.{cappedNext}
 use Rattle.node.specs.declared.Outcome.the-variants.{Waiting, LeftAlone}
 use Rattle.node.specs.Actions.{leaveOf, leaveRules, leaveRequest, leaving, refused, quiet, posting}
 use Rattle.node.proofs.ActionLaws.{leave-room, leaves-alone, leaves-by-request}
@@ -32,13 +33,13 @@ returns-2 c =
 returns-3 : tie.Need-returns-3
 unfolding leaveOf
 returns-3 c =
-    let not-alone = c .before .before .before .before in
+    let not-alone = c .before .before .before .before .before in
     let clear = not-alone .before .before in
     let called = clear .before .before in
     let u = called .before .args in
     let e = sym (not-alone .before .links-to .ensures) ∙ not-alone .if1 .left in
     let room = leave-room (u .me) (u .self) (sym (called .check .ensures) ∙ ap checked (clear .enum-told .given .1)) e in
-    let request = c .before .before .leave-request .ensures ∙ ap (leaveRequest (u .me) (u .self)) (c .before .before .before .next-of .ensures) in
+    let request = c .before .before .leave-request .ensures ∙ ap (leaveRequest (u .me) (u .self)) (c .before .before .before .capped-next .ensures ∙ ap cappedNext (c .before .before .before .before .number .ensures)) in
     c .posts-one .ensures
     ∙ (λ i. posting (c .before .with-status2 .ensures i) (request i) Waiting)
     ∙ leaves-by-request (u .me) (u .self) e room
@@ -52,6 +53,7 @@ leave-spec =
     (λ c. search needs)
     (λ c κs. tt)
     (λ c. search needs)
+    (λ c κs. tt)
     (λ c κs. tt)
     (λ c κs. tt)
     (λ c κs. tt)

@@ -2,6 +2,7 @@
 use mathlib.Core.Path.{_∙_}
 use mathlib.Core.Bool.{not, _&&_, cond}
 use mathlib.Core.Option.{none, some}
+use Rattle.refusal.specs.Code.{plain}
 use Rattle.node.proofs.join.check.Statement.{statement}
 use Rattle.node.proofs.join.check.Tie as tie
 
@@ -9,10 +10,10 @@ returns : tie.Need-returns
 returns c =
     let tests = c .before .before .before in
     let shapes = tests .before .before in
-    let between = c .before .before .rule .ensures ∙ (λ i. cond (not (tests .is-between .ensures i)) (some 24) none) in
-    let out = c .before .rule2 .ensures ∙ (λ i. cond (not (tests .before .is-out .ensures i)) (some 23) (between i)) in
+    let between = c .before .before .rule .ensures ∙ (λ i. cond (not (tests .is-between .ensures i)) (some (plain 24)) none) in
+    let out = c .before .rule2 .ensures ∙ (λ i. cond (not (tests .before .is-out .ensures i)) (some (plain 23)) (between i)) in
     c .rule3 .ensures
-    ∙ (λ i. cond (not (shapes .before .before .is-well-formed .ensures i && (shapes .before .peer-fits .ensures i && shapes .peer-fits2 .ensures i))) (some 6) (out i))
+    ∙ (λ i. cond (not (shapes .before .before .is-well-formed .ensures i && (shapes .before .peer-fits .ensures i && shapes .peer-fits2 .ensures i))) (some (plain 6)) (out i))
 
 pub check-spec : {M : Type 1} → statement M
 check-spec =

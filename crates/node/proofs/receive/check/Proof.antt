@@ -2,13 +2,14 @@
 use mathlib.Core.Path.{_∙_}
 use mathlib.Core.Bool.{not, _&&_, cond}
 use mathlib.Core.Option.{none, some}
+use Rattle.refusal.specs.Code.{plain}
 use Rattle.node.proofs.receive.check.Statement.{statement}
 use Rattle.node.proofs.receive.check.Tie as tie
 
 returns : tie.Need-returns
 returns c =
     let tests = c .before in
-    c .rule .ensures ∙ (λ i. cond (not (tests .before .is-well-formed .ensures i && tests .is-deliverable .ensures i)) (some 6) none)
+    c .rule .ensures ∙ (λ i. cond (not (tests .before .is-well-formed .ensures i && tests .is-deliverable .ensures i)) (some (plain 6)) none)
 
 pub check-spec : {M : Type 1} → statement M
 check-spec =

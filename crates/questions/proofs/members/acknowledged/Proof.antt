@@ -14,7 +14,7 @@ use Rattle.truth.proofs.Laws.{both}
 use Rattle.node.specs.declared.Kind.the-variants.{SetR}
 use Rattle.node.specs.declared.Message.{Message}
 use Rattle.node.specs.Shape.{capacity}
-use Rattle.protocol.specs.State.{isAck}
+use Rattle.node.specs.Tests.{isAck}
 use Rattle.questions.proofs.InsertedLaws.{Acknowledged, none-acknowledged, flag-set, flags-kept}
 use Rattle.questions.proofs.members.acknowledged.Statement.{statement}
 use Rattle.questions.proofs.members.acknowledged.Tie as tie

@@ -1,14 +1,14 @@
 -- `questions::owning::walk` meets its contract: from where the walk stands, with the hops left to make, the owner is the same as from its
 -- start. The measure is the hops left. Assumes nothing.
 use Prim.Native.Nat.{_≤_, _<_, _-_}
-use mathlib.Core.Path.{_≡_, sym, _∙_}
+use mathlib.Core.Path.{_≡_, sym, ap, _∙_}
 use mathlib.Core.Bool.{true}
 use native.Mathlib.Nat.{sub-zero}
 use native.Mathlib.Omega.{arith}
 use native.Mathlib.Numerals.{add-one}
 use borrow.Author.Needs.{needs}
 use Rattle.sequence.specs.Sequence.{firstSeq}
-use Rattle.protocol.specs.Questions.{ownerFrom}
+use Rattle.protocol.specs.Questions.{ownerFrom, walked}
 use Rattle.network.specs.Arrays.{live, wellFormed}
 use Rattle.network.proofs.Lengths.{lengths}
 use Rattle.questions.proofs.OwnerLaws.{Turn, standing, next-declared, link-missing, owner-found, goes-on, hops-spent}
@@ -32,7 +32,7 @@ returns : tie.Need-returns Inv-loop μ-loop
 unfolding firstSeq
 returns c h =
     let at = c .before .before .before in
-    sym (link-missing (turn at h) (at .before .before .args .serial) (c .enum-told .given .1)) ∙ at .before .loop .inv .2 h
+    ap walked (sym (link-missing (turn at h) (at .before .before .args .serial) (c .enum-told .given .1)) ∙ at .before .loop .inv .2 h)
 
 -- the node that a link names is declared
 returns-2 : tie.Need-returns-2 Inv-loop μ-loop
@@ -49,7 +49,7 @@ returns-3 c h =
     let linked = c .before .before .before .before .before in
     let at = linked .before .before .before in
     let test = sym (c .before .is-within .ensures) ∙ c .if2 .taken in
-    sym (owner-found (turn at h) (at .before .before .args .serial) (linked .link .given .1) test) ∙ at .before .loop .inv .2 h
+    ap walked (sym (owner-found (turn at h) (at .before .before .args .serial) (linked .link .given .1) test) ∙ at .before .loop .inv .2 h)
 
 loop-again : tie.Need-loop-again Inv-loop μ-loop
 unfolding firstSeq
@@ -67,7 +67,7 @@ returns-4 : tie.Need-returns-4 Inv-loop μ-loop
 returns-4 c h =
     let at = c .before in
     let start = at .before in
-    sym (hops-spent (start .args .t1) (start .args .serial) (at .loop .node) (at .loop .hops) (omega arith)) ∙ at .loop .inv .2 h
+    ap walked (sym (hops-spent (start .args .t1) (start .args .serial) (at .loop .node) (at .loop .hops) (omega arith)) ∙ at .loop .inv .2 h)
 
 pub walk-spec : {M : Type 1} → statement M
 walk-spec =

@@ -1,4 +1,4 @@
--- Steps that this crate's walks by hand share, each stated once over the function or the type that it is about.
+-- Steps that walks by hand share, each stated once over the function or the type that it is about.
 --     returned         a call has returned: its result, the last values of what was passed, and the fact that its contract ensures of them
 --     by-cases         a step that goes by cases on a test
 --     seen             what a value of a type owns is let go for the type's relation
