@@ -32,7 +32,7 @@ use Rattle.protocol.specs.declared.Call.the-variants.{Order, Deliver}
 use Rattle.protocol.specs.declared.Reply.the-variants.{Declared}
 use Rattle.protocol.specs.State.{queueLimit, declared, nodeAt, statusAt, keyAt, noticeWaits, wellFormed as listsAreWellFormed}
 use Rattle.protocol.specs.Calls.{Result, refused as listsRefused, commit, keyIsTaken, declareRules, allOut, createRules, peerAt, joinRules, leaveRules, messageAt, without, deliverRules, receiving, rulesOf, effectOf, applyOf as applyToLists}
-use Rattle.protocol.specs.History.{accepted}
+use Rattle.protocol.specs.Answer.{accepted}
 use Rattle.protocol.proofs.Facts.{WellFormed as ListsWellFormed, formed as lists-formed}
 use Rattle.protocol.proofs.Waiting.{taken}
 use Rattle.protocol.proofs.Cases.{tested-below, declared-addressee, accepted-case}

@@ -15,9 +15,8 @@ ghost use Rattle.protocol.specs.declared.Order.the-variants.{Declare, Create, J
 ghost use Rattle.protocol.specs.declared.Call.the-variants.{Order, Deliver};
 ghost use Rattle.protocol.specs.State.{isNoticeTo};
 ghost use Rattle.protocol.specs.Calls.{stepped, applyOf as applyToLists};
-ghost use Rattle.protocol.specs.History.{accepted};
 ghost use Rattle.network.specs.Arrays.{vacantNode, live, wellFormed};
-ghost use Rattle.protocol.specs.Answer.{answered};
+ghost use Rattle.protocol.specs.Answer.{answered, accepted};
 ghost use Rattle.calls.specs.Outcomes.{called, counted, refused, applyOf};
 ghost use Rattle.calls.specs.Changes.{committed};
 ghost use Rattle.calls.specs.Computed.{declareTests, createTests, afterStep, roomRules};

@@ -24,7 +24,7 @@ no-ring = record { ascending = tt; links = tt }
 pub one-ring : {key : ℕ → ℕ} {right : ℕ → Link} {u : ℕ} → right u ≡ To u → Ring key right (u ∷ [])
 one-ring h = record { ascending = (λ b i. absurd (in-nil i), tt); links = (h, tt) }
 
-ascending-kept : (key key′ : ℕ → ℕ) (L : List ℕ) → ((m : ℕ) → m ∈ L → key′ m ≡ key m) → Ascending key L → Ascending key′ L
+pub ascending-kept : (key key′ : ℕ → ℕ) (L : List ℕ) → ((m : ℕ) → m ∈ L → key′ m ≡ key m) → Ascending key L → Ascending key′ L
 ascending-kept key key′ [] same h = tt
 ascending-kept key key′ (a ∷ l) same h = (
   λ b i. omega (arith, h .0 b i, same a (here refl), same b (there i)),

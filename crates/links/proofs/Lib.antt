@@ -1,5 +1,6 @@
 pub mod Ring
 pub mod Lists
+pub mod Places
 pub mod Trails
 pub mod Circuit
 pub mod Owner

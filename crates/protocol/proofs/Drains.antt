@@ -18,7 +18,8 @@ use Rattle.protocol.specs.declared.Call.{Call}
 use Rattle.protocol.specs.declared.Call.the-variants.{Deliver}
 use Rattle.protocol.specs.State.{State, wellFormed}
 use Rattle.protocol.specs.Calls.{isFull, applyOf}
-use Rattle.protocol.specs.History.{accepted, History, start, advanced, run, history}
+use Rattle.protocol.specs.History.{History, start, advanced, run, history}
+use Rattle.protocol.specs.Answer.{accepted}
 use Rattle.protocol.specs.Drain.{lowestFrom, lowest, afterDelivery, places, deliverAll}
 use Rattle.protocol.specs.FurtherClaims.{Drains, DrainClaim, DrainIsCalls}
 use Rattle.protocol.proofs.Lively.{steady}

@@ -84,7 +84,7 @@ module _ {N N′ : ℕ → Node} {M rest M′ : List Message} {told joins : ℕ 
   no-answer : any (isAckTo v) M ≡ false
   no-answer = no-ack (c .dealt) v (c .taken) (request-deals v p new e n) refl
 
-  granting : Member N M p
+  pub granting : Member N M p
   granting = member-same (c .is-in) refl
 
   not-granting : (s : Status) → In ≢ s → (u : ℕ) → N u .status ≡ s → u ≢ p
@@ -167,8 +167,21 @@ module _ {N N′ : ℕ → Node} {M rest M′ : List Message} {told joins : ℕ 
       (c .inv .order .lefts x u R member before (other-keeps x R dp dv j))
 
 -- ---- a joiner is let in
+module _ {N N′ : ℕ → Node} {M rest M′ : List Message} {told joins : ℕ → Bool} {v p e n q a k l : ℕ} (c : Grant N N′ M rest M′ told joins v p v e n q a k l) where
+  pub is-joiner : N v .status ≡ Ins
+  is-joiner = ⊎-elim (λ h. h) (λ h. absurd (waiting c .by-leaver h .another refl)) (waits c)
+
+  pub to-join : ByJoiner N v p v e n
+  to-join = waiting c .by-joiner is-joiner
+
+  pub not-yet-in : isMember N M v ≡ false
+  not-yet-in = member-same is-joiner (no-answer c)
+
+  pub joiner-right : N′ v .right ≡ To e
+  joiner-right = ap rightOf (c .at .others v (not-granting c Ins (settled-in .0) v is-joiner)) ∙ to-join .right
+
 module _ {N N′ : ℕ → Node} {M rest M′ : List Message} {told told′ joins : ℕ → Bool} {v p e n k : ℕ} (c : Grant N N′ M rest M′ told joins v p v e n e v (nextSeq k) (nextSeq k))
-    (number : N p .rseq ≡ Is k) (others-told : (u : ℕ) → u ≢ v → told′ u ≡ told u) (own-told : told′ v ≡ joins v) where
+    (number : N p .rseq ≡ Is k) (others-told : (u : ℕ) → u ≢ v → told′ u ≡ told u) (own-told : told′ v ≡ true) where
   pub lets-in-kept : Invariant N′ M′ told′ joins
   lets-in-kept = record {
     dealings = dealings-kept c (e-member c) (λ _. own);
@@ -182,22 +195,19 @@ module _ {N N′ : ℕ → Node} {M rest M′ : List Message} {told told′ join
   }
     where
       ins : N v .status ≡ Ins
-      ins = ⊎-elim (λ h. h) (λ h. absurd (waiting c .by-leaver h .another refl)) (waits c)
+      ins = is-joiner c
 
       asked : ByJoiner N v p v e n
-      asked = waiting c .by-joiner ins
+      asked = to-join c
 
       not-yet : isMember N M v ≡ false
-      not-yet = member-same ins (no-answer c)
+      not-yet = not-yet-in c
 
       own : isMember N′ M′ v ≡ true
       own = member-same (status c v ∙ ins) (acked c)
 
-      v-not-p : v ≢ p
-      v-not-p = not-granting c Ins (settled-in .0) v ins
-
       right-v : N′ v .right ≡ To e
-      right-v = ap rightOf (c .at .others v v-not-p) ∙ asked .right
+      right-v = joiner-right c
 
       right-p : N′ p .right ≡ To v
       right-p = ap rightOf (c .at .self)
@@ -214,7 +224,7 @@ module _ {N N′ : ℕ → Node} {M rest M′ : List Message} {told told′ join
       from u m (no d) = inl (c .inv .order .members u .1 (sym (same-member c u d) ∙ m))
 
       as-told : (u : ℕ) → Dec (u ≡ v) → told′ u ≡ isMember N′ M′ u
-      as-told u (yes d) = rw d (own-told ∙ c .inv .dealings .joiners v ins ∙ sym own)
+      as-told u (yes d) = rw d (own-told ∙ sym own)
       as-told u (no d) = others-told u d ∙ c .inv .order .as-told u ∙ sym (same-member c u d)
 
       -- the joiner's number is the one that the answer brings it
@@ -248,8 +258,18 @@ module _ {N N′ : ℕ → Node} {M rest M′ : List Message} {told told′ join
       lefts x u R m r j (no d) (no f) = link-kept c x u R p f d m r j (p-in c) (c .right) f
 
 -- ---- a leaver is let go
+module _ {N N′ : ℕ → Node} {M rest M′ : List Message} {told joins : ℕ → Bool} {v p new e n q a k l : ℕ} (c : Grant N N′ M rest M′ told joins v p new e n q a k l) (another : new ≢ v) where
+  pub is-leaver : N v .status ≡ Del
+  is-leaver = ⊎-elim (λ h. absurd (another (waiting c .by-joiner h .itself))) (λ h. h) (waits c)
+
+  pub to-leave : ByLeaver N v new e n
+  to-leave = waiting c .by-leaver is-leaver
+
+  pub still-in : Member N M v
+  still-in = member-same is-leaver (no-answer c)
+
 module _ {N N′ : ℕ → Node} {M rest M′ : List Message} {told told′ joins : ℕ → Bool} {v p new e n l R₀ : ℕ} (c : Grant N N′ M rest M′ told joins v p new e n new p n l)
-    (another : new ≢ v) (number : N v .status ≡ Del → N v .rseq ≡ Is R₀) (others-told : (u : ℕ) → u ≢ v → told′ u ≡ told u) (own-told : told′ v ≡ joins v) where
+    (another : new ≢ v) (number : N v .rseq ≡ Is R₀) (others-told : (u : ℕ) → u ≢ v → told′ u ≡ told u) (own-told : told′ v ≡ false) where
   pub lets-go-kept : Invariant N′ M′ told′ joins
   lets-go-kept = record {
     dealings = dealings-kept c new-member (λ h. absurd (ins-not-del (sym h ∙ del)));
@@ -263,13 +283,13 @@ module _ {N N′ : ℕ → Node} {M rest M′ : List Message} {told told′ join
   }
     where
       del : N v .status ≡ Del
-      del = ⊎-elim (λ h. absurd (another (waiting c .by-joiner h .itself))) (λ h. h) (waits c)
+      del = is-leaver c another
 
       asked : ByLeaver N v new e n
-      asked = waiting c .by-leaver del
+      asked = to-leave c another
 
       still : Member N M v
-      still = member-same del (no-answer c)
+      still = still-in c another
 
       gone : isMember N′ M′ v ≡ false
       gone = member-same (status c v ∙ del) (acked c)
@@ -291,7 +311,7 @@ module _ {N N′ : ℕ → Node} {M rest M′ : List Message} {told told′ join
       from u m (no d) = (c .inv .order .members u .1 (sym (same-member c u d) ∙ m), d)
 
       as-told : (u : ℕ) → Dec (u ≡ v) → told′ u ≡ isMember N′ M′ u
-      as-told u (yes d) = rw d (own-told ∙ c .inv .dealings .leavers v del ∙ sym gone)
+      as-told u (yes d) = rw d (own-told ∙ sym gone)
       as-told u (no d) = others-told u d ∙ c .inv .order .as-told u ∙ sym (same-member c u d)
 
       lefts : (x u R : ℕ) → Member N′ M′ x → N′ x .right ≡ To u → Keeps N′ M′ x R → Dec (x ≡ v) → Dec (x ≡ p) → LeftLink N′ M′ x u R
@@ -299,5 +319,5 @@ module _ {N N′ : ℕ → Node} {M rest M′ : List Message} {told told′ join
       lefts x u R m r j (no d) (yes f) =
           let at-new : u ≡ new = same-end r (ap (λ y. N′ y .right) f ∙ right-p) in
           let kept : R ≡ n = granting-keeps c R (rw f at j) in
-          rw (f, at-new, kept) (new-link c v R₀ (asked .number R₀ (number del)) (c .inv .order .lefts v new R₀ still (asked .right) (stored (λ h. ins-not-del (sym h ∙ del)) (number del))))
+          rw (f, at-new, kept) (new-link c v R₀ (asked .number R₀ number) (c .inv .order .lefts v new R₀ still (asked .right) (stored (λ h. ins-not-del (sym h ∙ del)) number)))
       lefts x u R m r j (no d) (no f) = link-kept c x u R v f d m r j v-in (asked .right) d

@@ -21,7 +21,9 @@ pub mod Single
 pub mod Grants
 pub mod Steps
 pub mod Theorem
+pub mod EventLaws
 pub mod Owners
 pub mod Members
 pub mod Example
+pub mod EventExample
 pub mod Posted

@@ -26,7 +26,7 @@ use Rattle.protocol.specs.declared.Call.the-variants.{Deliver}
 use Rattle.protocol.specs.State.{State, queueLimit, nodeAt, statusAt, isDealingOf, wellFormed}
 use Rattle.node.specs.Tests.{isRequest}
 use Rattle.protocol.specs.Calls.{Result, isFull, messageAt, wouldGrant, isGrantable, applyOf}
-use Rattle.protocol.specs.History.{accepted}
+use Rattle.protocol.specs.Answer.{accepted}
 use Rattle.protocol.specs.Claim.{Delivers, delivered, load, Lively, SteadyClaim}
 use Rattle.protocol.proofs.Waiting.{dealings-most, Taken, taken}
 use Rattle.protocol.proofs.Facts.{WellFormed, formed, tested}

@@ -124,7 +124,7 @@ module _ (s : State) (formed : T (wellFormed s)) {L : List ℕ} (ring : Ring (ke
 pub owner-found : OwnerClaim
 owner-found calls =
     let g = good calls in
-    finds-owner (history calls .state) (holds (tested _ (g .formed))) (g .invariant .order .ring) (listed-inserted g)
+    finds-owner (history calls .state) (holds (tested _ (g .formed))) (g .invariant .order .ring) (listed-inserted _ (g .invariant .order))
 
 -- the rules before the search give other numbers, and where none refuses the search finds
 pub always-found : AlwaysFound

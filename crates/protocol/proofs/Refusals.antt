@@ -22,7 +22,7 @@ use Rattle.protocol.specs.declared.Call.the-variants.{Order, Deliver}
 use Rattle.protocol.specs.State.{State, declared, nodeAt, wellFormed}
 use Rattle.protocol.specs.Calls.{Result, refused, peerAt, rulesOf, effectOf, applyOf}
 use Rattle.protocol.specs.Questions.{Walk, found, lost, walked, ownerFrom, ownerRules, ownerOf}
-use Rattle.protocol.specs.History.{accepted}
+use Rattle.protocol.specs.Answer.{accepted}
 use Rattle.protocol.proofs.Facts.{WellFormed, formed, tested}
 use Rattle.protocol.proofs.Cases.{tested-below, accepted-case}
 use Rattle.protocol.proofs.Changes.{Act, drops, lets-in, lets-go, denies, joins, goes, stays-out, stays-in, takes, ignores}

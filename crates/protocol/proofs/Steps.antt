@@ -1,40 +1,39 @@
 -- Each call keeps the invariant: what a call does, case by case of `Changes`, is handed to the lemma about that kind of step, with the
 -- state's lists read as the function of nodes that the invariant speaks of. Assumes nothing.
-use mathlib.Core.Path.{_≡_, refl, ap, _∙_}
-use mathlib.Core.Logic.{_≢_}
-use mathlib.Core.Bool.{Bool, true, false}
-use mathlib.Core.List.{List}
+use mathlib.Core.Path.{_≡_, refl, ap}
+use mathlib.Core.Logic.{_⊎_, inl, inr, ⊎-elim, _↔_, _≢_}
+use mathlib.Core.Bool.{Bool, true, false, cond}
+use mathlib.Core.List.{List, [], _∷_, _++_}
 use Prim.Native.Nat.{ℕ, _≤_, _<_}
 use native.Mathlib.Omega.{arith}
 use native.Mathlib.Decide.{decLt}
-use lib.ListN.{length}
-use lib.Dec.{ltb}
-use borrow.Author.Tests.{ltb-true, eq-eqb, ne-eqb}
+use lib.ListN.{length, set}
+use lib.Dec.{ltb, eqb}
+use borrow.Author.Tests.{ltb-true, eq-eqb, ne-eqb, eqb-true, eqb-false}
 use Rattle.truth.specs.Tests.{count}
-use Rattle.truth.proofs.Laws.{both}
-use Rattle.truth.proofs.TestLaws.{_∈_}
+use Rattle.truth.proofs.Laws.{both, by-test}
+use Rattle.truth.proofs.TestLaws.{_∈_, not-both}
 use Rattle.refusal.specs.Code.{Reason}
-use Rattle.refusal.specs.Rules.{done, no as refusal}
+use Rattle.refusal.specs.Rules.{no as refusal}
 use Rattle.sequence.specs.Sequence.{nextSeq, cappedNext}
 use Rattle.node.specs.declared.Status.the-variants.{Out, Del}
 use Rattle.node.specs.declared.Seq.the-variants.{Is}
 use Rattle.node.specs.declared.Message.{Message}
-use Rattle.node.specs.declared.Outcome.the-variants.{Granted}
 use Rattle.node.specs.Tests.{isInOrDel, seqOf}
-use Rattle.node.specs.Actions.{setR}
+use Rattle.node.specs.Actions.{setR, setRAck, setL, relinked}
 use Rattle.node.proofs.FitLaws.{message-facts, number-named}
 use Rattle.protocol.specs.declared.Call.{Call}
 use Rattle.protocol.specs.declared.Order.the-variants.{Declare, Create, Join, Leave}
 use Rattle.protocol.specs.declared.Call.the-variants.{Order, Deliver}
-use Rattle.protocol.specs.declared.Reply.the-variants.{Stepped}
 use Rattle.protocol.specs.State.{State, nodeAt, statusAt, isDealingOf, dealings}
 use Rattle.protocol.specs.Calls.{Result, messageAt, peerAt}
-use Rattle.protocol.specs.History.{History, put, toldAfter, joinsAfter}
-use Rattle.protocol.proofs.Nodes.{declared-at, past, set-at}
+use Rattle.protocol.specs.Events.{stays, admitted, released, grantOf, eventOf, put, toldAfter}
+use Rattle.protocol.specs.History.{History, joinsAfter}
+use Rattle.protocol.proofs.Nodes.{listed, declared-at, past, set-at}
 use Rattle.protocol.proofs.Waiting.{Taken, Dealt}
-use Rattle.protocol.proofs.Fields.{statusOf, senderOf}
+use Rattle.protocol.proofs.Fields.{statusOf}
 use Rattle.protocol.proofs.Facts.{WellFormed}
-use Rattle.protocol.proofs.Changes.{Act, drops, lets-in, lets-go, denies, joins, goes, stays-out, stays-in, takes, ignores}
+use Rattle.protocol.proofs.Changes.{Grants, Act, drops, lets-in, lets-go, denies, joins, goes, stays-out, stays-in, takes, ignores}
 use Rattle.protocol.proofs.Changes.{Accepted, declares, creates, asks, goes-alone, leaves, delivers, Change, refuses, accepts}
 use Rattle.protocol.proofs.Moves.{unconcerned}
 use Rattle.protocol.proofs.Numbers.{NumbersFit}
@@ -44,7 +43,7 @@ use Rattle.protocol.proofs.Denials.{denies-kept, drops-kept}
 use Rattle.protocol.proofs.Notices.{takes-kept, ignores-kept}
 use Rattle.protocol.proofs.Orders.{declares-kept, asks-kept, leaves-kept}
 use Rattle.protocol.proofs.Single.{creates-kept, goes-alone-kept}
-use Rattle.protocol.proofs.Grants.{granted, lets-in-kept, lets-go-kept}
+use Rattle.protocol.proofs.Grants.{granted, Grant, is-joiner, lets-in-kept, is-leaver, lets-go-kept}
 
 -- what is kept from call to call
 pub record Good (h : History) : Type 0 where
@@ -67,12 +66,22 @@ put-own f u b = rw (eq-eqb u u refl)
 put-other : (f : ℕ → Bool) (u : ℕ) (b : Bool) (v : ℕ) → v ≢ u → put f u b v ≡ f v
 put-other f u b v d = rw (ne-eqb v u d)
 
-told-refused : (h : History) (call : Call) (n : Reason) → toldAfter h call (refusal n) ≡ h .told
-told-refused h (Order (Declare key)) n = refl
-told-refused h (Order (Create u)) n = refl
-told-refused h (Order (Join u p q)) n = refl
-told-refused h (Order (Leave u)) n = refl
-told-refused h (Deliver place) n = refl
+pub put-true : (f : ℕ → Bool) (u v : ℕ) → (put f u true v ≡ true) ↔ ((f v ≡ true) ⊎ (v ≡ u))
+put-true f u v =
+    by-test (λ b. (b ≡ true) ↔ ((f v ≡ true) ⊎ (v ≡ u))) (eqb v u) _ _
+    (λ t. (λ _. inr (eqb-true v u t), λ _. refl)) (λ d. (λ e. inl e, ⊎-elim (λ e. e) (λ e. absurd (eqb-false v u d e))))
+
+pub put-false : (f : ℕ → Bool) (u v : ℕ) → (put f u false v ≡ true) ↔ ((f v ≡ true) × (v ≢ u))
+put-false f u v =
+    by-test (λ b. (b ≡ true) ↔ ((f v ≡ true) × (v ≢ u))) (eqb v u) _ _
+    (λ t. (λ e. absurd (not-both e refl), λ k. absurd (k .1 (eqb-true v u t)))) (λ d. (λ e. (e, eqb-false v u d), λ k. k .0))
+
+pub event-refused : (h : History) (call : Call) (n : Reason) → eventOf (h .state) (h .joins) call (refusal n) ≡ stays
+event-refused h (Order (Declare key)) n = refl
+event-refused h (Order (Create u)) n = refl
+event-refused h (Order (Join u p q)) n = refl
+event-refused h (Order (Leave u)) n = refl
+event-refused h (Deliver place) n = refl
 
 joins-refused : (h : History) (call : Call) (n : Reason) → joinsAfter h call (refusal n) ≡ h .joins
 joins-refused h (Order (Declare key)) n = refl
@@ -83,18 +92,26 @@ joins-refused h (Deliver place) n = refl
 
 -- ---- each call keeps the invariant
 abbrev pub After : History → Call → Result → Type 0
-After h call r = Invariant (nodeAt (r .state)) (r .state .messages) (toldAfter h call (r .said)) (joinsAfter h call (r .said))
+After h call r = Invariant (nodeAt (r .state)) (r .state .messages) (toldAfter (h .told) (eventOf (h .state) (h .joins) call (r .said))) (joinsAfter h call (r .said))
 
 module _ (h : History) (g : Good h) where
-  -- the granted request is that of v
-  sender : (place : ℕ) {m : Message} {v p new e n : ℕ} → messageAt (h .state) place ≡ m → m ≡ setR v p new e n → messageAt (h .state) place .sender ≡ v
-  sender place at em = ap senderOf (at ∙ em)
+  -- what the granting of a request shows
+  pub granting-of : {v p new e n k : ℕ} {rest : List Message} (q a b l : ℕ) → Taken (h .state .messages) (setR v p new e n) rest → p < length (h .state .nodes) → Grants (h .state) p e k
+      → Grant (nodeAt (h .state)) (listed (set (h .state .nodes) p (relinked (nodeAt (h .state) p) new n))) (h .state .messages) rest (rest ++ setL p q a b ∷ setRAck p v l ∷ []) (h .told) (h .joins) v p new e n q a b l
+  granting-of {v} {p} {rest = rest} q a b l t k gr = record {
+    dealt = dealt (g .formed);
+    inv = g .invariant;
+    taken = t;
+    queue = granted rest p v q a b l;
+    is-in = gr .is-in;
+    right = gr .right;
+    at = set-at (h .state .nodes) k;
+  }
 
-  others-told : (place v : ℕ) → messageAt (h .state) place .sender ≡ v → (u : ℕ) → u ≢ v → toldAfter h (Deliver place) (done (Stepped Granted)) u ≡ h .told u
-  others-told place v e u d = put-other (h .told) _ _ u (λ f. d (f ∙ e))
-
-  own-told : (place v : ℕ) → messageAt (h .state) place .sender ≡ v → toldAfter h (Deliver place) (done (Stepped Granted)) v ≡ h .joins v
-  own-told place v e = rw e (put-own (h .told) v (h .joins v))
+  -- the event that a granted request of v to p is
+  pub granted-event : (place : ℕ) {m : Message} {v p new e n : ℕ} {b : Bool} → messageAt (h .state) place ≡ m → m ≡ setR v p new e n → h .joins v ≡ b
+      → grantOf (h .joins) (messageAt (h .state) place) ≡ cond b (admitted v p) (released v p)
+  granted-event place {v = v} {p} at em j = rw (at, em, j)
 
   -- a leaver whose request waits is declared, and has its right number
   number : {p new e n : ℕ} {rest : List Message} (v : ℕ) → Taken (h .state .messages) (setR v p new e n) rest
@@ -106,26 +123,14 @@ module _ (h : History) (g : Good h) where
   act-holds : (place : ℕ) {m : Message} {rest : List Message} {r : Result} → messageAt (h .state) place ≡ m → Taken (h .state .messages) m rest
       → m .to < length (h .state .nodes) → Act (h .state) m rest r → After h (Deliver place) r
   act-holds place at t k (drops out er) = rw er (drops-kept (g .invariant) (set-at (h .state .nodes) k) (dealt (g .formed)) refl out t)
-  act-holds place {rest = rest} at t k (lets-in v p e n l em gr room er) = rw er
-      (lets-in-kept (record {
-        dealt = dealt (g .formed);
-        inv = g .invariant;
-        taken = rw em at t;
-        queue = granted rest p v e v (nextSeq l) (nextSeq l);
-        is-in = gr .is-in;
-        right = gr .right;
-        at = set-at (h .state .nodes) (rw em at k);
-      }) (gr .number) (others-told place v (sender place at em)) (own-told place v (sender place at em)))
-  act-holds place {rest = rest} at t k (lets-go v p new e n l em d gr er) = rw er
-      (lets-go-kept (record {
-        dealt = dealt (g .formed);
-        inv = g .invariant;
-        taken = rw em at t;
-        queue = granted rest p v new p n (cappedNext l);
-        is-in = gr .is-in;
-        right = gr .right;
-        at = set-at (h .state .nodes) (rw em at k);
-      }) d (number v (rw em at t)) (others-told place v (sender place at em)) (own-told place v (sender place at em)))
+  act-holds place at t k (lets-in v p e n l em gr room er) =
+      let c = granting-of e v (nextSeq l) (nextSeq l) (rw em at t) (rw em at k) gr in
+      rw (er, granted-event place at em (g .invariant .dealings .joiners v (is-joiner c)))
+      (lets-in-kept c (gr .number) (put-other (h .told) v true) (put-own (h .told) v true))
+  act-holds place at t k (lets-go v p new e n l em d gr er) =
+      let c = granting-of new p n (cappedNext l) (rw em at t) (rw em at k) gr in
+      rw (er, granted-event place at em (g .invariant .dealings .leavers v (is-leaver c d)))
+      (lets-go-kept c d (number v (rw em at t) (is-leaver c d)) (put-other (h .told) v false) (put-own (h .told) v false))
   act-holds place at t k (denies v p new e n em out er) = rw er (denies-kept (g .invariant) (set-at (h .state .nodes) (rw em at k)) v p new e n (rw em at t))
   act-holds place at t k (joins p u n em ins er) = rw er (joins-kept (dealt (g .formed)) (g .invariant) n (rw em at t) ins (set-at (h .state .nodes) (rw em at k)))
   act-holds place at t k (goes p u n em del er) = rw er (goes-kept (dealt (g .formed)) (g .invariant) n (rw em at t) del (set-at (h .state .nodes) (rw em at k)))
@@ -142,7 +147,7 @@ module _ (h : History) (g : Good h) where
       let below : (u : ℕ) → ltb u size ≡ true → u ≢ size = λ u k d. omega (arith, ltb-true u size k) in
       (below v (fits .sender), below p (fits .to), below e (both (ltb new size) (ltb e size) (fits .kind) .1))
 
-  all-out : ((v : ℕ) → v < length (h .state .nodes) → statusAt (h .state) v ≡ Out) → (v : ℕ) → statusAt (h .state) v ≡ Out
+  pub all-out : ((v : ℕ) → v < length (h .state .nodes) → statusAt (h .state) v ≡ Out) → (v : ℕ) → statusAt (h .state) v ≡ Out
   all-out out v = go (decLt v (length (h .state .nodes)))
     where
       go : Dec (v < length (h .state .nodes)) → statusAt (h .state) v ≡ Out
@@ -163,5 +168,5 @@ module _ (h : History) (g : Good h) where
   accepted-holds (delivers place m rest ec d act) = rw ec (act-holds place (d .at) (d .taken) (d .declared) act)
 
   pub call-holds : {call : Call} {r : Result} → Change (h .state) call r → After h call r
-  call-holds {call} (refuses n er) = rw (er, told-refused h call n, joins-refused h call n) (g .invariant)
+  call-holds {call} (refuses n er) = rw (er, event-refused h call n, joins-refused h call n) (g .invariant)
   call-holds (accepts a) = accepted-holds a

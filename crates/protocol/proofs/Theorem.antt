@@ -35,7 +35,7 @@ use Rattle.protocol.proofs.Cases.{change}
 use Rattle.protocol.proofs.Numbers.{numbers-tested, numbers-kept}
 use Rattle.protocol.proofs.Kept.{kept}
 use Rattle.protocol.proofs.Lively.{lively}
-use Rattle.protocol.proofs.Invariant.{Member, Keeps, stored, coming, LeftLink, Invariant}
+use Rattle.protocol.proofs.Invariant.{Member, Keeps, stored, coming, LeftLink, Order, Invariant}
 use Rattle.protocol.proofs.Frames.{settled-in, settled-out, ins-not-del, member-not-out}
 use Rattle.protocol.proofs.Steps.{Good, call-holds}
 
@@ -68,11 +68,14 @@ good-start = record {
   };
 }
 
+pub good-next : (h : History) → Good h → (call : Call) → Good (advanced h call)
+good-next h g call =
+    let c = change (h .state) call in
+    record { formed = kept (g .formed) c; numbers = numbers-kept (h .state) (g .numbers) c; invariant = call-holds h g c }
+
 good-run : (calls : List Call) (h : History) → Good h → Good (run h calls)
 good-run [] h g = g
-good-run (call ∷ calls) h g =
-    let c = change (h .state) call in
-    good-run calls (advanced h call) (record { formed = kept (g .formed) c; numbers = numbers-kept (h .state) (g .numbers) c; invariant = call-holds h g c })
+good-run (call ∷ calls) h g = good-run calls (advanced h call) (good-next h g call)
 
 pub good : (calls : List Call) → Good (history calls)
 good calls = good-run calls start good-start
@@ -120,16 +123,16 @@ module _ {s : State} {told joins : ℕ → Bool} (w : WellFormed s) (inv : Invar
       go R link (no d) = let (x, a, i) = link .awaited d in absurd (not-both (eq-eqb u u refl) (none-in (isNoticeTo u) quiet i))
 
 -- the list that is the ring is that of the inserted nodes
-pub listed-inserted : {h : History} (g : Good h) (u : ℕ) → (u ∈ g .invariant .order .order) ↔ Inserted (h .state) u
+pub listed-inserted : (s : State) {told : ℕ → Bool} (o : Order (nodeAt s) (s .messages) told) (u : ℕ) → (u ∈ o .order) ↔ Inserted s u
 unfolding inserted
-listed-inserted g u = let o = g .invariant .order in (λ i. holds (o .members u .0 i), λ t. o .members u .1 (is-true _ t))
+listed-inserted s o u = (λ i. holds (o .members u .0 i), λ t. o .members u .1 (is-true _ t))
 
 pub sound : (h : History) → Good h → Sound h
 unfolding inserted
 sound h g =
     let s = h .state in
     let o = g .invariant .order in
-    let member : (u : ℕ) → (u ∈ o .order) ↔ Inserted s u = listed-inserted g in
+    let member : (u : ℕ) → (u ∈ o .order) ↔ Inserted s u = listed-inserted s o in
     record {
       well-formed = holds (tested s (g .formed));
       numbers-fit = holds (numbers-tested s (g .numbers));

@@ -15,7 +15,8 @@ use Rattle.protocol.specs.declared.Call.the-variants.{Deliver}
 use Rattle.protocol.specs.State.{State, keyAt, leftAt, rightAt, noticeWaits, wellFormed, numbersFit, inserted}
 use Rattle.node.specs.Tests.{isRequest}
 use Rattle.protocol.specs.Calls.{applyOf}
-use Rattle.protocol.specs.History.{accepted, History, history}
+use Rattle.protocol.specs.History.{History, history}
+use Rattle.protocol.specs.Answer.{accepted}
 
 abbrev pub Inserted : State → ℕ → Type 0
 Inserted s u = T (inserted s u)

@@ -11,7 +11,7 @@ use Rattle.protocol.specs.declared.Call.the-variants.{Deliver}
 use Rattle.protocol.specs.declared.Reply.the-variants.{Ran}
 use Rattle.protocol.specs.State.{State, wellFormed}
 use Rattle.protocol.specs.Calls.{Result, refused, applyOf}
-use Rattle.protocol.specs.History.{accepted}
+use Rattle.protocol.specs.Answer.{accepted}
 
 -- "the lowest place that is not refused", of the k places from `place` on
 abbrev pub lowestFrom : State → ℕ → ℕ → Option ℕ

@@ -1,8 +1,10 @@
 pub mod State
 pub mod Calls
 pub mod Answer
+pub mod Events
 pub mod History
 pub mod Claim
+pub mod EventClaim
 pub mod Example
 pub mod Questions
 pub mod Drain

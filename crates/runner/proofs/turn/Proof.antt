@@ -9,7 +9,7 @@ use Rattle.protocol.specs.Answer.{answered}
 use Rattle.network.proofs.Lengths.{lengths}
 use Rattle.calls.specs.Outcomes.{Counted, called, counted}
 use Rattle.script.specs.declared.Record.{Record}
-use Rattle.script.specs.Script.{next, reading, readAt}
+use Rattle.script.specs.Script.{reading}
 use Rattle.printout.specs.Lines.{lineOf}
 use Rattle.records.specs.InArrays.{performOf}
 use Rattle.records.proofs.RecordLaws.{stays-well-formed, few-posted}
