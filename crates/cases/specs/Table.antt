@@ -8,6 +8,7 @@ use Rattle.refusal.specs.Code.{plain}
 use Rattle.refusal.specs.Rules.{done, no}
 use Rattle.serial.specs.Serial.{coded, packedOf, binaryOf}
 use Rattle.interval.specs.Interval.{between}
+use Rattle.sequence.specs.Sequence.{Number}
 use Rattle.node.specs.declared.Status.the-variants.{Out, In}
 use Rattle.node.specs.declared.Link.the-variants.{To}
 use Rattle.node.specs.declared.Seq.the-variants.{Is}
@@ -31,11 +32,11 @@ AllHold [] = Unit {0}
 AllHold (c ∷ cs) = Holds c × AllHold cs
 
 -- node 0 of the cases below: in, with the links, the left number and the right number given
-abbrev pub node0 : ℕ → ℕ → ℕ → ℕ → Node
+abbrev pub node0 : ℕ → ℕ → Number → Number → Node
 node0 left right lseq rseq = record { status = In; key = 1_000; left = To left; right = To right; lseq = lseq; rseq = Is rseq }
 
 -- the same, gone out
-abbrev pub out0 : ℕ → ℕ → ℕ → ℕ → Node
+abbrev pub out0 : ℕ → ℕ → Number → Number → Node
 out0 left right lseq rseq = record { status = Out; key = 1_000; left = To left; right = To right; lseq = lseq; rseq = Is rseq }
 
 abbrev pub table : List Case

@@ -7,6 +7,7 @@ use mathlib.Core.List.{List}
 use Prim.Native.Nat.{ℕ}
 use native.Mathlib.Decide.{ℕ-discrete}
 use borrow.Author.Tests.{eq-eqb, ne-eqb}
+use Rattle.sequence.specs.Sequence.{Number}
 use Rattle.truth.proofs.TestLaws.{_∈_, not-both, any-in}
 use Rattle.node.specs.declared.Status.{Status}
 use Rattle.node.specs.declared.Status.the-variants.{Out, Ins, In, Del}
@@ -55,7 +56,7 @@ module _ {N N′ : ℕ → Node} {M rest : List Message} {told joins : ℕ → B
           go (yes e) = absurd (n (sym (ap statusOf (at .self)) ∙ ap (λ u. N′ u .status) (sym e) ∙ h))
           go (no e) = sym (ap statusOf (at .others u e)) ∙ h
 
-      not-own : (v p new e n : ℕ) → setR v p new e n ∈ rest → v ≢ i
+      not-own : (v p new e : ℕ) (n : Number) → setR v p new e n ∈ rest → v ≢ i
       not-own v p new e n j same = not-both (request-deals v p new e n) (rw (← same) at (only-dealing dealt i t d j))
 
       member : (u : ℕ) → isMember N′ rest u ≡ isMember N M u
@@ -65,11 +66,11 @@ module _ {N N′ : ℕ → Node} {M rest : List Message} {told joins : ℕ → B
           go (yes e) = rw e own
           go (no e) = member-same (ap statusOf (at .others u e)) (acks-left u t (elsewhere u e))
 
-      keeps : (v R : ℕ) → Member N M v → Keeps N′ rest v R → Dec (v ≡ i) → Keeps N M v R
+      keeps : (v : ℕ) (R : Number) → Member N M v → Keeps N′ rest v R → Dec (v ≡ i) → Keeps N M v R
       keeps v R mv k (yes e) = rw e (keep R (rw e at mv) (rw e at k))
       keeps v R mv k (no e) = keeps-same (ap statusOf (at .others v e)) (ap rseqOf (at .others v e)) (λ w j. t .left _ j) k
 
-      notice : (w u a n : ℕ) → setL w u a n ∈ M → setL w u a n ∈ rest
+      notice : (w u a : ℕ) (n : Number) → setL w u a n ∈ M → setL w u a n ∈ rest
       notice w u a n j = ⊎-elim (λ e. absurd (apart (λ y. isNotice (y .kind)) refl not-notice e)) (λ k. k) (t .either _ j)
 
 -- ---- the four answers

@@ -19,7 +19,7 @@ use Rattle.refusal.proofs.Laws.{Cleared, cleared}
 use Rattle.serial.specs.Serial.{inRange}
 use Rattle.interval.specs.Interval.{between}
 use Rattle.interval.proofs.Laws.{Between, between-iff}
-use Rattle.sequence.specs.Sequence.{newer}
+use Rattle.sequence.specs.Sequence.{Number, newer}
 use Rattle.node.specs.declared.Status.{Status}
 use Rattle.node.specs.declared.Status.the-variants.{Out, Ins, In, Del}
 use Rattle.node.specs.declared.Kind.{Kind}
@@ -113,7 +113,7 @@ module _ (s : State) (v p : ℕ) (rest : List Message) where
   ActsBy kind e = Act s (record { sender = v; to = p; kind = kind }) rest (commit s p rest e)
 
   module _ {count : ℕ} (fits : NodeFits count (nodeAt s p)) (not-out : statusAt s p ≢ Out) where
-    request-case : (new e n : ℕ) → (grants (nodeAt s p) v new e ≡ true → length (s .messages) < queueLimit) → ActsBy (SetR new e n) (onSetR p (nodeAt s p) v new e n)
+    request-case : (new e : ℕ) (n : Number) → (grants (nodeAt s p) v new e ≡ true → length (s .messages) < queueLimit) → ActsBy (SetR new e n) (onSetR p (nodeAt s p) v new e n)
     request-case new e n room = ⊎-elim grant (λ f. denies v p new e n refl not-out (rw f)) (decided (grants (nodeAt s p) v new e))
       where
         facts : grants (nodeAt s p) v new e ≡ true → Grants s p e (seqOf (nodeAt s p .rseq))
@@ -141,7 +141,7 @@ module _ (s : State) (v p : ℕ) (rest : List Message) where
     nak-case In e not-in = absurd (not-in refl)
     nak-case Del e not-in = stays-in v p refl e (rw append-nil)
 
-    notice-case : (left n : ℕ) → ActsBy (SetL left n) (onSetL (nodeAt s p) left n)
+    notice-case : (left : ℕ) (n : Number) → ActsBy (SetL left n) (onSetL (nodeAt s p) left n)
     notice-case left n =
         by-test (ActsBy (SetL left n)) (newer n (nodeAt s p .lseq)) _ _
         (λ t. takes v p left n refl not-out t (rw append-nil))

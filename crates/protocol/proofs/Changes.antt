@@ -11,7 +11,7 @@ use Rattle.refusal.specs.Code.{Reason}
 use Rattle.refusal.specs.Rules.{done}
 use Rattle.serial.specs.Serial.{inRange}
 use Rattle.interval.proofs.Laws.{Between}
-use Rattle.sequence.specs.Sequence.{nextSeq, cappedNext, hasNext, newer}
+use Rattle.sequence.specs.Sequence.{Number, nextSeq, cappedNext, hasNext, newer}
 use Rattle.node.specs.declared.Status.the-variants.{Out, Ins, In, Del}
 use Rattle.node.specs.declared.Link.the-variants.{To}
 use Rattle.node.specs.declared.Seq.the-variants.{Is}
@@ -62,7 +62,7 @@ pub record LeavesAlone (s : State) (u : ℕ) : Type 0 where
   pub is-in : statusAt s u ≡ In
   pub alone : rightAt s u ≡ To u
 
-pub record Leaves (s : State) (u p q n : ℕ) : Type 0 where
+pub record Leaves (s : State) (u p q : ℕ) (n : Number) : Type 0 where
   pub declared : u < length (s .nodes)
   pub is-in : statusAt s u ≡ In
   pub left : leftAt s u ≡ To p
@@ -78,7 +78,7 @@ pub record Delivers (s : State) (place : ℕ) (m : Message) (rest : List Message
   pub declared : m .to < length (s .nodes)
 
 -- node p grants: it links to e with number k
-pub record Grants (s : State) (p e k : ℕ) : Type 0 where
+pub record Grants (s : State) (p e : ℕ) (k : Number) : Type 0 where
   pub is-in : statusAt s p ≡ In
   pub right : rightAt s p ≡ To e
   pub number : nodeAt s p .rseq ≡ Is k
@@ -87,17 +87,17 @@ pub record Grants (s : State) (p e k : ℕ) : Type 0 where
 -- ---- what node m .to does with the message m, the rest still waiting
 pub data Act (s : State) (m : Message) (rest : List Message) (r : Result) : Type 0 where
   drops : statusAt s (m .to) ≡ Out → r ≡ moved s (m .to) (nodeAt s (m .to)) rest Dropped → Act s m rest r
-  lets-in : (v p e n k : ℕ) → m ≡ setR v p v e n → Grants s p e k → hasNext k ≡ true
+  lets-in : (v p e : ℕ) (n k : Number) → m ≡ setR v p v e n → Grants s p e k → hasNext k ≡ true
       → r ≡ sent s p (relinked (nodeAt s p) v n) rest (setL p e v (nextSeq k) ∷ setRAck p v (nextSeq k) ∷ []) Granted → Act s m rest r
-  lets-go : (v p new e n k : ℕ) → m ≡ setR v p new e n → new ≢ v → Grants s p e k
+  lets-go : (v p new e : ℕ) (n k : Number) → m ≡ setR v p new e n → new ≢ v → Grants s p e k
       → r ≡ sent s p (relinked (nodeAt s p) new n) rest (setL p new p n ∷ setRAck p v (cappedNext k) ∷ []) Granted → Act s m rest r
-  denies : (v p new e n : ℕ) → m ≡ setR v p new e n → statusAt s p ≢ Out → r ≡ sent s p (nodeAt s p) rest (setRNak p v ∷ []) Denied → Act s m rest r
-  joins : (p u n : ℕ) → m ≡ setRAck p u n → statusAt s u ≡ Ins → r ≡ moved s u (admitted (nodeAt s u) n) rest Joined → Act s m rest r
-  goes : (p u n : ℕ) → m ≡ setRAck p u n → statusAt s u ≡ Del → r ≡ moved s u (withStatus Out (nodeAt s u)) rest Gone → Act s m rest r
+  denies : (v p new e : ℕ) (n : Number) → m ≡ setR v p new e n → statusAt s p ≢ Out → r ≡ sent s p (nodeAt s p) rest (setRNak p v ∷ []) Denied → Act s m rest r
+  joins : (p u : ℕ) (n : Number) → m ≡ setRAck p u n → statusAt s u ≡ Ins → r ≡ moved s u (admitted (nodeAt s u) n) rest Joined → Act s m rest r
+  goes : (p u : ℕ) (n : Number) → m ≡ setRAck p u n → statusAt s u ≡ Del → r ≡ moved s u (withStatus Out (nodeAt s u)) rest Gone → Act s m rest r
   stays-out : (p u : ℕ) → m ≡ setRNak p u → statusAt s u ≡ Ins → r ≡ moved s u (withStatus Out (nodeAt s u)) rest JoinDenied → Act s m rest r
   stays-in : (p u : ℕ) → m ≡ setRNak p u → statusAt s u ≡ Del → r ≡ moved s u (withStatus In (nodeAt s u)) rest LeaveDenied → Act s m rest r
-  takes : (p u a n : ℕ) → m ≡ setL p u a n → statusAt s u ≢ Out → newer n (nodeAt s u .lseq) ≡ true → r ≡ moved s u (leftSet (nodeAt s u) a n) rest LeftSet → Act s m rest r
-  ignores : (p u a n : ℕ) → m ≡ setL p u a n → statusAt s u ≢ Out → newer n (nodeAt s u .lseq) ≡ false → r ≡ moved s u (nodeAt s u) rest LeftOld → Act s m rest r
+  takes : (p u a : ℕ) (n : Number) → m ≡ setL p u a n → statusAt s u ≢ Out → newer n (nodeAt s u .lseq) ≡ true → r ≡ moved s u (leftSet (nodeAt s u) a n) rest LeftSet → Act s m rest r
+  ignores : (p u a : ℕ) (n : Number) → m ≡ setL p u a n → statusAt s u ≢ Out → newer n (nodeAt s u .lseq) ≡ false → r ≡ moved s u (nodeAt s u) rest LeftOld → Act s m rest r
 
 -- ---- what a call does that is not refused
 pub data Accepted (s : State) (call : Call) (r : Result) : Type 0 where
@@ -106,7 +106,7 @@ pub data Accepted (s : State) (call : Call) (r : Result) : Type 0 where
   asks : (u p q : ℕ) → call ≡ Order (Join u p q) → Joins s u p q
       → r ≡ sent s u (joining (nodeAt s u) (peerAt s p) (peerAt s q)) (s .messages) (setR u p u q (nodeAt s u .lseq) ∷ []) Waiting → Accepted s call r
   goes-alone : (u : ℕ) → call ≡ Order (Leave u) → LeavesAlone s u → r ≡ moved s u (withStatus Out (nodeAt s u)) (s .messages) LeftAlone → Accepted s call r
-  leaves : (u p q n : ℕ) → call ≡ Order (Leave u) → Leaves s u p q n
+  leaves : (u p q : ℕ) (n : Number) → call ≡ Order (Leave u) → Leaves s u p q n
       → r ≡ sent s u (withStatus Del (nodeAt s u)) (s .messages) (setR u p q u (nextSeq n) ∷ []) Waiting → Accepted s call r
   delivers : (place : ℕ) (m : Message) (rest : List Message) → call ≡ Deliver place → Delivers s place m rest → Act s m rest r → Accepted s call r
 

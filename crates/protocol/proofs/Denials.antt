@@ -6,6 +6,7 @@ use mathlib.Core.Bool.{Bool, true, false}
 use mathlib.Core.List.{List, [], _∷_, _++_, Memᴰ·append-left as in-left}
 use Prim.Native.Nat.{ℕ}
 use borrow.Author.Tests.{eqb-true}
+use Rattle.sequence.specs.Sequence.{Number}
 use Rattle.truth.specs.Tests.{any}
 use Rattle.truth.proofs.Laws.{both}
 use Rattle.truth.proofs.TestLaws.{_∈_, decided, not-both}
@@ -24,7 +25,7 @@ use Rattle.protocol.proofs.Frames.{member-same, member-not-out, request
 -- no node changes; but for denials nothing comes, no acknowledgement goes, and no notice to a node that is not out
 pub unmoved : {N N′ : ℕ → Node} {M M′ : List Message} {told joins : ℕ → Bool} → Invariant N M told joins → ((u : ℕ) → N′ u ≡ N u)
     → ((u : ℕ) → any (isAckTo u) M′ ≡ any (isAckTo u) M) → ((x : Message) → isNak (x .kind) ≡ false → x ∈ M′ → x ∈ M)
-    → ((w u a n : ℕ) → N u .status ≢ Out → setL w u a n ∈ M → setL w u a n ∈ M′) → Invariant N′ M′ told joins
+    → ((w u a : ℕ) (n : Number) → N u .status ≢ Out → setL w u a n ∈ M → setL w u a n ∈ M′) → Invariant N′ M′ told joins
 unmoved {N} {N′} {M} {M′} inv same acks from to = record {
   dealings = record {
     joiners = λ u h. inv .dealings .joiners u (sym (status u) ∙ h);
@@ -52,7 +53,7 @@ unmoved {N} {N′} {M} {M′} inv same acks from to = record {
 
 module _ {N N′ : ℕ → Node} {M rest : List Message} {told joins : ℕ → Bool} {i : ℕ} (inv : Invariant N M told joins) (at : At N i (N i) N′) where
   -- "Not granted: post SetRNak to v."
-  pub denies-kept : (v p new e n : ℕ) → Taken M (setR v p new e n) rest → Invariant N′ (rest ++ setRNak p v ∷ []) told joins
+  pub denies-kept : (v p new e : ℕ) (n : Number) → Taken M (setR v p new e n) rest → Invariant N′ (rest ++ setRNak p v ∷ []) told joins
   denies-kept v p new e n t =
       unmoved inv (unchanged at (λ y. y) refl)
       (λ u. same-any (isAckTo u) _ rest (λ x a j. ⊎-elim (λ k. k) (λ d. absurd (apart (isAckTo u) a refl d)) (in-one rest j)) (λ x _ j. in-left _ j) ∙ acks-left u t refl)
@@ -69,5 +70,5 @@ module _ {N N′ : ℕ → Node} {M rest : List Message} {told joins : ℕ → B
           idle : (u : ℕ) → isAckTo u m ≡ true → dealings (N u .status) ≡ 0
           idle u a = ap (λ w. dealings (N w .status)) (sym (eqb-true (m .to) u (both (isAck (m .kind)) _ a .1)) ∙ to) ∙ ap dealings out
 
-      notice : (w u a n : ℕ) → N u .status ≢ Out → setL w u a n ∈ M → setL w u a n ∈ rest
+      notice : (w u a : ℕ) (n : Number) → N u .status ≢ Out → setL w u a n ∈ M → setL w u a n ∈ rest
       notice w u a n d j = ⊎-elim (λ e. absurd (d (ap (λ k. N k .status) (ap toOf e ∙ to) ∙ out))) (λ k. k) (t .either _ j)

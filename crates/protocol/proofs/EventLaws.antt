@@ -9,7 +9,7 @@ use native.Mathlib.Omega.{arith}
 use lib.ListN.{length}
 use Rattle.truth.proofs.TestLaws.{_∈_, holds, is-true, not-both}
 use Rattle.interval.proofs.Laws.{between-iff}
-use Rattle.sequence.specs.Sequence.{nextSeq, cappedNext}
+use Rattle.sequence.specs.Sequence.{Number, nextSeq, cappedNext}
 use Rattle.links.specs.Ring.{Ascending, withMember, withoutMember}
 use Rattle.links.proofs.Ring.{here, in-nil, in-one}
 use Rattle.links.proofs.Places.{members-with, members-without, ascending-inserted, ascending-removed, one-of-key, one-order}
@@ -199,7 +199,7 @@ module _ {s s′ : State} {rest : List Message} {told joins : ℕ → Bool} {v p
               new (rw same at t)
 
 -- ---- released
-module _ {s s′ : State} {rest : List Message} {told joins : ℕ → Bool} {v p new e n q a k l : ℕ} (c : Grant (nodeAt s) (nodeAt s′) (s .messages) rest (s′ .messages) told joins v p new e n q a k l)
+module _ {s s′ : State} {rest : List Message} {told joins : ℕ → Bool} {v p new e : ℕ} {n : Number} {q a : ℕ} {k l : Number} (c : Grant (nodeAt s) (nodeAt s′) (s .messages) rest (s′ .messages) told joins v p new e n q a k l)
     (another : new ≢ v) (o′ : Holds s′ (put told v false)) where
   releases : Releases s s′ v p
   unfolding inserted

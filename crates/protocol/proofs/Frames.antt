@@ -6,6 +6,7 @@ use mathlib.Core.Bool.{Bool}
 use mathlib.Core.List.{List}
 use Prim.Native.Nat.{ℕ}
 use native.Mathlib.Omega.{arith}
+use Rattle.sequence.specs.Sequence.{Number}
 use Rattle.truth.specs.Tests.{any}
 use Rattle.truth.proofs.TestLaws.{_∈_, not-both}
 use Rattle.links.proofs.Circuit.{ring-kept, next-in}
@@ -39,7 +40,7 @@ member-same e f = rw (e, f)
 pub member-not-out : (N : ℕ → Node) (M : List Message) (u : ℕ) → Member N M u → N u .status ≢ Out
 member-not-out N M u t e = not-both t (ap (λ s. isInserted s (any (isAckTo u) M)) e)
 
-pub request-same : {N N′ : ℕ → Node} {v p new e n : ℕ} → N′ v ≡ N v → N′ p .key ≡ N p .key → N′ e .key ≡ N e .key → Request N v p new e n → Request N′ v p new e n
+pub request-same : {N N′ : ℕ → Node} {v p new e : ℕ} {n : Number} → N′ v ≡ N v → N′ p .key ≡ N p .key → N′ e .key ≡ N e .key → Request N v p new e n → Request N′ v p new e n
 request-same {N} {N′} {v} {p} {new} {e} {n} same at-p at-e r = record {
   by-joiner = λ h. let b = r .by-joiner (sym (ap statusOf same) ∙ h) in
       record { itself = b .itself; left = rw same (b .left); right = rw same (b .right); number = rw same (b .number); between = rw (same, at-p, at-e) (b .between) };
@@ -47,13 +48,13 @@ request-same {N} {N′} {v} {p} {new} {e} {n} same at-p at-e r = record {
       record { right = rw same (b .right); another = b .another; expected = b .expected; number = rw same (b .number) };
 }
 
-pub keeps-same : {N N′ : ℕ → Node} {M M′ : List Message} {v R : ℕ} → N′ v .status ≡ N v .status → N′ v .rseq ≡ N v .rseq
+pub keeps-same : {N N′ : ℕ → Node} {M M′ : List Message} {v : ℕ} {R : Number} → N′ v .status ≡ N v .status → N′ v .rseq ≡ N v .rseq
     → ((w : ℕ) → setRAck w v R ∈ M′ → setRAck w v R ∈ M) → Keeps N′ M′ v R → Keeps N M v R
 keeps-same st sq acks (stored n e) = stored (λ h. n (st ∙ h)) (sym sq ∙ e)
 keeps-same st sq acks (coming h w i) = coming (sym st ∙ h) w (acks w i)
 
-pub left-same : {N N′ : ℕ → Node} {M M′ : List Message} {v u R : ℕ} → N′ u .lseq ≡ N u .lseq → N′ u .left ≡ N u .left
-    → ((w a n : ℕ) → setL w u a n ∈ M′ → setL w u a n ∈ M) → ((w a n : ℕ) → setL w u a n ∈ M → setL w u a n ∈ M′) → LeftLink N M v u R → LeftLink N′ M′ v u R
+pub left-same : {N N′ : ℕ → Node} {M M′ : List Message} {v u : ℕ} {R : Number} → N′ u .lseq ≡ N u .lseq → N′ u .left ≡ N u .left
+    → ((w a : ℕ) (n : Number) → setL w u a n ∈ M′ → setL w u a n ∈ M) → ((w a : ℕ) (n : Number) → setL w u a n ∈ M → setL w u a n ∈ M′) → LeftLink N M v u R → LeftLink N′ M′ v u R
 left-same {u} {R} sl ll from to k = record {
   reached = rw sl (k .reached);
   noticed = λ w a n i. k .noticed w a n (from w a n i);
@@ -67,8 +68,8 @@ pub record SameRing (N : ℕ → Node) (M : List Message) (N′ : ℕ → Node) 
   pub member : (u : ℕ) → isMember N′ M′ u ≡ isMember N M u
   pub key : (u : ℕ) → Member N M u → N′ u .key ≡ N u .key
   pub right : (u : ℕ) → Member N M u → N′ u .right ≡ N u .right
-  pub keeps : (v R : ℕ) → Member N M v → Keeps N′ M′ v R → Keeps N M v R
-  pub lefts : (v u R : ℕ) → Member N M u → LeftLink N M v u R → LeftLink N′ M′ v u R
+  pub keeps : (v : ℕ) (R : Number) → Member N M v → Keeps N′ M′ v R → Keeps N M v R
+  pub lefts : (v u : ℕ) (R : Number) → Member N M u → LeftLink N M v u R → LeftLink N′ M′ v u R
 
 pub same-order : {N N′ : ℕ → Node} {M M′ : List Message} {told : ℕ → Bool} → SameRing N M N′ M′ → Order N M told → Order N′ M′ told
 same-order {N} {N′} {M} {M′} same o = record {

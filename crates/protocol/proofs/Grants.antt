@@ -10,7 +10,7 @@ use native.Mathlib.Decide.{ℕ-discrete}
 use borrow.Author.Tests.{eq-eqb, ne-eqb}
 use Rattle.truth.specs.Tests.{any}
 use Rattle.truth.proofs.TestLaws.{_∈_, not-both, any-in}
-use Rattle.sequence.specs.Sequence.{nextSeq}
+use Rattle.sequence.specs.Sequence.{Number, nextSeq}
 use Rattle.sequence.proofs.Laws.{Newer, newer-irreflexive, newer-transitive, next-newer}
 use Rattle.links.proofs.Ring.{here, there, With, Without}
 use Rattle.links.proofs.Circuit.{ring-kept, next-in, one-predecessor}
@@ -33,16 +33,16 @@ use Rattle.protocol.proofs.Invariant.{isMember, Member, ByJoiner, ByLea
 use Rattle.protocol.proofs.Frames.{settled-in, ins-not-del, member-same, request-same, keeps-same, left-same}
 
 -- node p has granted v's request: a notice (a, k) to q and the answer l to v have come to those that wait
-pub record Granted (rest M′ : List Message) (p v q a k l : ℕ) : Type 0 where
+pub record Granted (rest M′ : List Message) (p v q a : ℕ) (k l : Number) : Type 0 where
   pub still : (x : Message) → x ∈ rest → x ∈ M′
   pub notice : setL p q a k ∈ M′
   pub answer : setRAck p v l ∈ M′
-  pub requests : (w u b d n : ℕ) → setR w u b d n ∈ M′ → setR w u b d n ∈ rest
-  pub notices : (w u b n : ℕ) → setL w u b n ∈ M′ → (setL w u b n ∈ rest) ⊎ ((u ≡ q) × (b ≡ a) × (n ≡ k))
-  pub acks : (w u n : ℕ) → setRAck w u n ∈ M′ → (setRAck w u n ∈ rest) ⊎ ((u ≡ v) × (n ≡ l))
+  pub requests : (w u b d : ℕ) (n : Number) → setR w u b d n ∈ M′ → setR w u b d n ∈ rest
+  pub notices : (w u b : ℕ) (n : Number) → setL w u b n ∈ M′ → (setL w u b n ∈ rest) ⊎ ((u ≡ q) × (b ≡ a) × (n ≡ k))
+  pub acks : (w u : ℕ) (n : Number) → setRAck w u n ∈ M′ → (setRAck w u n ∈ rest) ⊎ ((u ≡ v) × (n ≡ l))
   pub acks-to : (u : ℕ) (x : Message) → u ≢ v → isAckTo u x ≡ true → x ∈ M′ → x ∈ rest
 
-pub granted : (rest : List Message) (p v q a k l : ℕ) → Granted rest (rest ++ setL p q a k ∷ setRAck p v l ∷ []) p v q a k l
+pub granted : (rest : List Message) (p v q a : ℕ) (k l : Number) → Granted rest (rest ++ setL p q a k ∷ setRAck p v l ∷ []) p v q a k l
 granted rest p v q a k l = record {
   still = λ x j. in-left _ j;
   notice = in-right rest (here refl);
@@ -53,15 +53,15 @@ granted rest p v q a k l = record {
   acks-to = λ u x d b j. ⊎-elim (λ i. i) (⊎-elim (λ f. absurd (apart (isAckTo u) b refl f)) (λ f. absurd (apart (isAckTo u) b (ne-eqb v u (λ g. d (sym g))) f))) (in-two rest j);
 }
   where
-    same-notice : (w u b n : ℕ) → setL w u b n ≡ setL p q a k → (u ≡ q) × (b ≡ a) × (n ≡ k)
+    same-notice : (w u b : ℕ) (n : Number) → setL w u b n ≡ setL p q a k → (u ≡ q) × (b ≡ a) × (n ≡ k)
     same-notice w u b n e = let f : SetL b n ≡ SetL a k = ap kindOf e in (ap toOf e, (cc), (cc))
 
-    same-ack : (w u n : ℕ) → setRAck w u n ≡ setRAck p v l → (u ≡ v) × (n ≡ l)
+    same-ack : (w u : ℕ) (n : Number) → setRAck w u n ≡ setRAck p v l → (u ≡ v) × (n ≡ l)
     same-ack w u n e = let f : SetRAck n ≡ SetRAck l = ap kindOf e in (ap toOf e, (cc))
 
 -- ---- what both grants have in common
 -- node p, which is in, has granted v's request and is relinked; q is the node whose left link is to change
-pub record Grant (N N′ : ℕ → Node) (M rest M′ : List Message) (told joins : ℕ → Bool) (v p new e n q a k l : ℕ) : Type 0 where
+pub record Grant (N N′ : ℕ → Node) (M rest M′ : List Message) (told joins : ℕ → Bool) (v p new e : ℕ) (n : Number) (q a : ℕ) (k l : Number) : Type 0 where
   pub dealt : Dealt N M
   pub inv : Invariant N M told joins
   pub taken : Taken M (setR v p new e n) rest
@@ -70,7 +70,7 @@ pub record Grant (N N′ : ℕ → Node) (M rest M′ : List Message) (told join
   pub right : N p .right ≡ To e
   pub at : At N p (relinked (N p) new n) N′
 
-module _ {N N′ : ℕ → Node} {M rest M′ : List Message} {told joins : ℕ → Bool} {v p new e n q a k l : ℕ} (c : Grant N N′ M rest M′ told joins v p new e n q a k l) where
+module _ {N N′ : ℕ → Node} {M rest M′ : List Message} {told joins : ℕ → Bool} {v p new e : ℕ} {n : Number} {q a : ℕ} {k l : Number} (c : Grant N N′ M rest M′ told joins v p new e n q a k l) where
   status : (u : ℕ) → N′ u .status ≡ N u .status
   status = unchanged (c .at) statusOf refl
 
@@ -107,14 +107,14 @@ module _ {N N′ : ℕ → Node} {M rest M′ : List Message} {told joins : ℕ 
       keys : (u : ℕ) → N′ u .key ≡ N u .key
       keys = unchanged (c .at) keyOf refl
 
-      request : (w u b d m : ℕ) → setR w u b d m ∈ M → Dec (w ≡ p) → Request N′ w u b d m
+      request : (w u b d : ℕ) (m : Number) → setR w u b d m ∈ M → Dec (w ≡ p) → Request N′ w u b d m
       request w u b d m j (yes f) = record {
         by-joiner = λ h. absurd (not-granting Ins (settled-in .0) w (sym (status w) ∙ h) f);
         by-leaver = λ h. absurd (not-granting Del (settled-in .1) w (sym (status w) ∙ h) f);
       }
       request w u b d m j (no f) = request-same (c .at .others w f) (keys u) (keys d) (c .inv .dealings .requests w u b d m j)
 
-      quiet : (w u b m : ℕ) → N u .status ≡ Ins → isMember N′ M′ u ≡ false → setL w u b m ∈ M′ → Dec (u ≡ v) → ⊥
+      quiet : (w u b : ℕ) (m : Number) → N u .status ≡ Ins → isMember N′ M′ u ≡ false → setL w u b m ∈ M′ → Dec (u ≡ v) → ⊥
       quiet w u b m h f j (yes d) = not-both (own (ap (λ w. N w .status) (sym d) ∙ h)) (ap (isMember N′ M′) (sym d) ∙ f)
       quiet w u b m h f j (no d) =
           let before : isMember N M u ≡ false = sym (same-member u d) ∙ f in
@@ -180,7 +180,7 @@ module _ {N N′ : ℕ → Node} {M rest M′ : List Message} {told joins : ℕ 
   pub joiner-right : N′ v .right ≡ To e
   joiner-right = ap rightOf (c .at .others v (not-granting c Ins (settled-in .0) v is-joiner)) ∙ to-join .right
 
-module _ {N N′ : ℕ → Node} {M rest M′ : List Message} {told told′ joins : ℕ → Bool} {v p e n k : ℕ} (c : Grant N N′ M rest M′ told joins v p v e n e v (nextSeq k) (nextSeq k))
+module _ {N N′ : ℕ → Node} {M rest M′ : List Message} {told told′ joins : ℕ → Bool} {v p e : ℕ} {n k : Number} (c : Grant N N′ M rest M′ told joins v p v e n e v (nextSeq k) (nextSeq k))
     (number : N p .rseq ≡ Is k) (others-told : (u : ℕ) → u ≢ v → told′ u ≡ told u) (own-told : told′ v ≡ true) where
   pub lets-in-kept : Invariant N′ M′ told′ joins
   lets-in-kept = record {
@@ -258,7 +258,7 @@ module _ {N N′ : ℕ → Node} {M rest M′ : List Message} {told told′ join
       lefts x u R m r j (no d) (no f) = link-kept c x u R p f d m r j (p-in c) (c .right) f
 
 -- ---- a leaver is let go
-module _ {N N′ : ℕ → Node} {M rest M′ : List Message} {told joins : ℕ → Bool} {v p new e n q a k l : ℕ} (c : Grant N N′ M rest M′ told joins v p new e n q a k l) (another : new ≢ v) where
+module _ {N N′ : ℕ → Node} {M rest M′ : List Message} {told joins : ℕ → Bool} {v p new e : ℕ} {n : Number} {q a : ℕ} {k l : Number} (c : Grant N N′ M rest M′ told joins v p new e n q a k l) (another : new ≢ v) where
   pub is-leaver : N v .status ≡ Del
   is-leaver = ⊎-elim (λ h. absurd (another (waiting c .by-joiner h .itself))) (λ h. h) (waits c)
 

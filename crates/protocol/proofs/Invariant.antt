@@ -9,7 +9,7 @@ use Prim.Native.Nat.{ℕ}
 use Rattle.truth.specs.Tests.{any}
 use Rattle.truth.proofs.TestLaws.{_∈_}
 use Rattle.interval.proofs.Laws.{Between}
-use Rattle.sequence.specs.Sequence.{nextSeq}
+use Rattle.sequence.specs.Sequence.{Number, nextSeq}
 use Rattle.sequence.proofs.Laws.{Newer}
 use Rattle.links.proofs.Ring.{Ring}
 use Rattle.node.specs.declared.Status.the-variants.{Ins, Del}
@@ -28,7 +28,7 @@ Member N M u = isMember N M u ≡ true
 
 -- ---- requests
 -- v asked p to be let in before e
-pub record ByJoiner (N : ℕ → Node) (v p new e n : ℕ) : Type 0 where
+pub record ByJoiner (N : ℕ → Node) (v p new e : ℕ) (n : Number) : Type 0 where
   pub itself : new ≡ v
   pub left : N v .left ≡ To p
   pub right : N v .right ≡ To e
@@ -36,14 +36,14 @@ pub record ByJoiner (N : ℕ → Node) (v p new e n : ℕ) : Type 0 where
   pub between : Between (N p .key) (N e .key) (N v .key)
 
 -- v asked to be passed over
-pub record ByLeaver (N : ℕ → Node) (v new e n : ℕ) : Type 0 where
+pub record ByLeaver (N : ℕ → Node) (v new e : ℕ) (n : Number) : Type 0 where
   pub right : N v .right ≡ To new
   pub another : new ≢ v
   pub expected : e ≡ v
-  pub number : (k : ℕ) → N v .rseq ≡ Is k → n ≡ nextSeq k
+  pub number : (k : Number) → N v .rseq ≡ Is k → n ≡ nextSeq k
 
 -- what a waiting SetR(new, e, n) from v to p shows, by the status of v
-pub record Request (N : ℕ → Node) (v p new e n : ℕ) : Type 0 where
+pub record Request (N : ℕ → Node) (v p new e : ℕ) (n : Number) : Type 0 where
   pub by-joiner : N v .status ≡ Ins → ByJoiner N v p new e n
   pub by-leaver : N v .status ≡ Del → ByLeaver N v new e n
 
@@ -51,19 +51,19 @@ pub record Request (N : ℕ → Node) (v p new e n : ℕ) : Type 0 where
 pub record Dealings (N : ℕ → Node) (M : List Message) (joins : ℕ → Bool) : Type 0 where
   pub joiners : (u : ℕ) → N u .status ≡ Ins → joins u ≡ true
   pub leavers : (u : ℕ) → N u .status ≡ Del → joins u ≡ false
-  pub requests : (v p new e n : ℕ) → setR v p new e n ∈ M → Request N v p new e n
-  pub quiet : (w u a n : ℕ) → N u .status ≡ Ins → isMember N M u ≡ false → ¬ (setL w u a n ∈ M)
+  pub requests : (v p new e : ℕ) (n : Number) → setR v p new e n ∈ M → Request N v p new e n
+  pub quiet : (w u a : ℕ) (n : Number) → N u .status ≡ Ins → isMember N M u ≡ false → ¬ (setL w u a n ∈ M)
 
 -- ---- left links
 -- the number that v keeps for its right link: its right number, or, while it is ins, the one that the answer to it carries
-pub data Keeps (N : ℕ → Node) (M : List Message) (v R : ℕ) : Type 0 where
+pub data Keeps (N : ℕ → Node) (M : List Message) (v : ℕ) (R : Number) : Type 0 where
   stored : N v .status ≢ Ins → N v .rseq ≡ Is R → Keeps N M v R
   coming : N v .status ≡ Ins → (w : ℕ) → setRAck w v R ∈ M → Keeps N M v R
 
 -- u's left link towards its predecessor v, which keeps the number R for u
-pub record LeftLink (N : ℕ → Node) (M : List Message) (v u R : ℕ) : Type 0 where
+pub record LeftLink (N : ℕ → Node) (M : List Message) (v u : ℕ) (R : Number) : Type 0 where
   pub reached : ¬ Newer (N u .lseq) R
-  pub noticed : (w a n : ℕ) → setL w u a n ∈ M → ¬ Newer n R
+  pub noticed : (w a : ℕ) (n : Number) → setL w u a n ∈ M → ¬ Newer n R
   pub named : (w a : ℕ) → setL w u a R ∈ M → a ≡ v
   pub settled : N u .lseq ≡ R → N u .left ≡ To v
   pub awaited : N u .lseq ≢ R → (w : ℕ) × (a : ℕ) × (setL w u a R ∈ M)
@@ -74,7 +74,7 @@ pub record Order (N : ℕ → Node) (M : List Message) (told : ℕ → Bool) : T
   pub ring : Ring (λ u. N u .key) (λ u. N u .right) order
   pub members : (u : ℕ) → (u ∈ order) ↔ Member N M u
   pub as-told : (u : ℕ) → told u ≡ isMember N M u
-  pub lefts : (v u R : ℕ) → Member N M v → N v .right ≡ To u → Keeps N M v R → LeftLink N M v u R
+  pub lefts : (v u : ℕ) (R : Number) → Member N M v → N v .right ≡ To u → Keeps N M v R → LeftLink N M v u R
 
 pub record Invariant (N : ℕ → Node) (M : List Message) (told joins : ℕ → Bool) : Type 0 where
   pub dealings : Dealings N M joins

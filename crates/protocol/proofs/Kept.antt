@@ -13,7 +13,7 @@ use borrow.Author.Tests.{lt-ltb, eq-eqb, ne-eqb}
 use Rattle.truth.specs.Tests.{bit, count}
 use Rattle.truth.proofs.Laws.{or-false, both, not-left}
 use Rattle.truth.proofs.TestLaws.{bit-true, bit-false, count-append}
-use Rattle.sequence.specs.Sequence.{nextSeq, cappedNext}
+use Rattle.sequence.specs.Sequence.{Number, nextSeq, cappedNext}
 use Rattle.node.specs.declared.Status.the-variants.{Out, In, Del}
 use Rattle.node.specs.declared.Node.{Node}
 use Rattle.node.specs.declared.Message.{Message}
@@ -55,7 +55,7 @@ module _ {s : State} (w : WellFormed s) where
       others = λ v d. omega arith;
     }
 
-    adds-request : (p new e n : ℕ) → dealings (x .status) ≡ 1 → length (s .messages) < queueLimit → messageFits (length (s .nodes)) (setR u p new e n) ≡ true
+    adds-request : (p new e : ℕ) (n : Number) → dealings (x .status) ≡ 1 → length (s .messages) < queueLimit → messageFits (length (s .nodes)) (setR u p new e n) ≡ true
         → Moves s u x (s .messages ++ setR u p new e n ∷ [])
     adds-request p new e n one room posted = record {
       declared = h;
@@ -86,7 +86,7 @@ module _ {s : State} (w : WellFormed s) where
   leave-alone-kept : {u : ℕ} → LeavesAlone s u → Moves s u (withStatus Out (nodeAt s u)) (s .messages)
   leave-alone-kept {u} h = keeps-messages (h .declared) (ap dealings (h .is-in)) refl (out-fits (w .node u (h .declared)))
 
-  leave-kept : {u p q n : ℕ} → Leaves s u p q n → Moves s u (withStatus Del (nodeAt s u)) (s .messages ++ setR u p q u (nextSeq n) ∷ [])
+  leave-kept : {u p q : ℕ} {n : Number} → Leaves s u p q n → Moves s u (withStatus Del (nodeAt s u)) (s .messages ++ setR u p q u (nextSeq n) ∷ [])
   leave-kept {u} {p} {q} {n} h =
       let node = w .node u (h .declared) in
       let u-in = lt-ltb u (length (s .nodes)) (h .declared) in
@@ -135,7 +135,7 @@ module _ {s : State} (w : WellFormed s) where
     is-answered {u} h its one key fits = only-takes h key fits (omega (arith, w .dealing u h, t .counted (isDealingOf u)))
 
   -- a request goes, and an answer to its sender comes
-  module _ {v p new e n : ℕ} {rest : List Message} (t : Taken (s .messages) (setR v p new e n) rest) (h : p < length (s .nodes)) where
+  module _ {v p new e : ℕ} {n : Number} {rest : List Message} (t : Taken (s .messages) (setR v p new e n) rest) (h : p < length (s .nodes)) where
     asked : MessageFits (length (s .nodes)) (setR v p new e n)
     asked = message-facts (length (s .nodes)) (setR v p new e n) (w .message _ (t .waits))
 

@@ -14,7 +14,7 @@ use borrow.Author.Tests.{ltb-true, ltb-false, eq-eqb, not-true}
 use Rattle.truth.specs.Tests.{bit, count}
 use Rattle.truth.proofs.Laws.{true-is-not-false}
 use Rattle.truth.proofs.TestLaws.{decided, holds, is-true, count-append}
-use Rattle.sequence.specs.Sequence.{nextSeq, cappedNext}
+use Rattle.sequence.specs.Sequence.{Number, nextSeq, cappedNext}
 use Rattle.node.specs.declared.Node.{Node}
 use Rattle.node.specs.declared.Kind.{Kind}
 use Rattle.node.specs.declared.Kind.the-variants.{SetR, SetRAck, SetRNak, SetL}
@@ -58,7 +58,7 @@ gone : {ms rest : List Message} {m : Message} → Taken ms m rest → 1 + load r
 gone {m} t = omega (arith, load-taken t, some-load m)
 
 -- a request goes and these messages come
-replied : {ms rest : List Message} {v p new e n : ℕ} → Taken ms (setR v p new e n) rest → (posts : List Message) → load posts ≤ 2 → 1 + load (rest ++ posts) ≤ load ms
+replied : {ms rest : List Message} {v p new e : ℕ} {n : Number} → Taken ms (setR v p new e n) rest → (posts : List Message) → load posts ≤ 2 → 1 + load (rest ++ posts) ≤ load ms
 replied {rest} t posts few = omega (arith, load-taken t, load-append rest posts)
 
 -- the load falls by one at least, or nothing was accepted and it does not rise

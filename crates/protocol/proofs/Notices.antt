@@ -8,7 +8,7 @@ use mathlib.Core.List.{List}
 use Prim.Native.Nat.{ℕ}
 use native.Mathlib.Decide.{ℕ-discrete}
 use Rattle.truth.proofs.TestLaws.{_∈_, holds, is-true, not-both}
-use Rattle.sequence.specs.Sequence.{newer}
+use Rattle.sequence.specs.Sequence.{Number, newer}
 use Rattle.sequence.proofs.Laws.{Newer, newer-total}
 use Rattle.node.specs.declared.Status.the-variants.{Ins}
 use Rattle.node.specs.declared.Link.the-variants.{To}
@@ -29,7 +29,7 @@ module _ {N N′ : ℕ → Node} {M rest : List Message} {told joins : ℕ → B
     (dealt : Dealt N M) (inv : Invariant N M told joins) (t : Taken M (setL p i a n) rest) (at : At N i x N′) where
   -- node i keeps all but its left link and number; what is left to show is about that link
   heard : x .status ≡ N i .status → x .key ≡ N i .key → x .right ≡ N i .right → x .rseq ≡ N i .rseq
-      → ((v R : ℕ) → LeftLink N M v i R → LeftLink N′ rest v i R) → Invariant N′ rest told joins
+      → ((v : ℕ) (R : Number) → LeftLink N M v i R → LeftLink N′ rest v i R) → Invariant N′ rest told joins
   heard st key right rseq link = record {
     dealings = record {
       joiners = λ u h. inv .dealings .joiners u (sym (status u) ∙ h);
@@ -77,7 +77,7 @@ module _ {N N′ : ℕ → Node} {M rest : List Message} {told joins : ℕ → B
           }
       request v q new e k j (no d) = request-same (at .others v d) (keys q) (keys e) (inv .dealings .requests v q new e k (t .left _ j))
 
-      lefts : (v u R : ℕ) → LeftLink N M v u R → Dec (u ≡ i) → LeftLink N′ rest v u R
+      lefts : (v u : ℕ) (R : Number) → LeftLink N M v u R → Dec (u ≡ i) → LeftLink N′ rest v u R
       lefts v u R k (yes d) = rw d (link v R (rw d at k))
       lefts v u R k (no d) =
           left-same (ap lseqOf (at .others u d)) (ap leftOf (at .others u d)) (λ w b l j. t .left _ j)
@@ -91,7 +91,7 @@ takes-kept {N} {N′} {M} {rest} {p = p} {i} {a} {n} dealt inv t new at = heard 
     lseq : N′ i .lseq ≡ n
     lseq = ap lseqOf (at .self)
 
-    link : (v R : ℕ) → LeftLink N M v i R → LeftLink N′ rest v i R
+    link : (v : ℕ) (R : Number) → LeftLink N M v i R → LeftLink N′ rest v i R
     link v R k = record {
       reached = rw lseq (k .noticed p a n (t .waits));
       noticed = λ w b l j. k .noticed w b l (t .left _ j);
@@ -117,7 +117,7 @@ ignores-kept {N} {N′} {M} {rest} {p = p} {i} {a} {n} dealt inv t old at = hear
         is-newer : Newer n (N i .lseq) → newer n (N i .lseq) ≡ true
         is-newer h = is-true (newer n (N i .lseq)) h
 
-    link : (v R : ℕ) → LeftLink N M v i R → LeftLink N′ rest v i R
+    link : (v : ℕ) (R : Number) → LeftLink N M v i R → LeftLink N′ rest v i R
     link v R k = record {
       reached = rw lseq (k .reached);
       noticed = λ w b l j. k .noticed w b l (t .left _ j);

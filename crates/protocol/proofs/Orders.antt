@@ -10,7 +10,7 @@ use borrow.Author.Tests.{eq-eqb}
 use Rattle.truth.specs.Tests.{any}
 use Rattle.truth.proofs.TestLaws.{_∈_, not-both, none-in, not-any}
 use Rattle.interval.proofs.Laws.{Between}
-use Rattle.sequence.specs.Sequence.{nextSeq}
+use Rattle.sequence.specs.Sequence.{Number, nextSeq}
 use Rattle.node.specs.declared.Status.{Status}
 use Rattle.node.specs.declared.Status.the-variants.{Out, Ins, In, Del}
 use Rattle.node.specs.declared.Link.the-variants.{To}
@@ -32,7 +32,7 @@ use Rattle.protocol.proofs.Frames.{settled-in, ins-not-del, member-same
 -- ---- declare
 -- a node more, that is out as its place was; every request that waits is from, to and about others
 pub declares-kept : {N N′ : ℕ → Node} {M : List Message} {told joins : ℕ → Bool} {i key : ℕ} → Invariant N M told joins → N i .status ≡ Out
-    → ((v p new e n : ℕ) → setR v p new e n ∈ M → (v ≢ i) × (p ≢ i) × (e ≢ i)) → At N i (declaredOf key) N′ → Invariant N′ M told joins
+    → ((v p new e : ℕ) (n : Number) → setR v p new e n ∈ M → (v ≢ i) × (p ≢ i) × (e ≢ i)) → At N i (declaredOf key) N′ → Invariant N′ M told joins
 declares-kept {N} {N′} {M} {i = i} inv out known at = record {
   dealings = record {
     joiners = λ u h. inv .dealings .joiners u (sym (status u) ∙ h);
@@ -151,7 +151,7 @@ asked {N} {N′} {M} {joins = joins} {joins′} {i} {p} {new} {e} {n} {x} dealt 
     ack-before : (u R w : ℕ) → setRAck w u R ∈ (M ++ setR i p new e n ∷ []) → setRAck w u R ∈ M
     ack-before u R w j = ⊎-elim (λ h. h) (λ z. absurd (apart (λ y. isAck (y .kind)) refl refl z)) (in-posted M j)
 
-    keeps : (v R : ℕ) → Member N M v → Keeps N′ (M ++ setR i p new e n ∷ []) v R → Dec (v ≡ i) → Keeps N M v R
+    keeps : (v : ℕ) (R : Number) → Member N M v → Keeps N′ (M ++ setR i p new e n ∷ []) v R → Dec (v ≡ i) → Keeps N M v R
     keeps v R m k (yes d) = rw d (a .keeps R (rw d at m) (keeps-same refl refl (ack-before i R) (rw d at k)))
     keeps v R m k (no d) = keeps-same (status v d) (ap rseqOf (a .at .others v d)) (ack-before v R) k
 

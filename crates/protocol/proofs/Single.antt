@@ -8,7 +8,7 @@ use native.Mathlib.Decide.{ℕ-discrete}
 use borrow.Author.Tests.{eq-eqb}
 use Rattle.truth.specs.Tests.{any}
 use Rattle.truth.proofs.TestLaws.{_∈_, not-both, none-in}
-use Rattle.sequence.specs.Sequence.{firstSeq}
+use Rattle.sequence.specs.Sequence.{Number, firstSeq}
 use Rattle.sequence.proofs.Laws.{newer-irreflexive}
 use Rattle.links.proofs.Ring.{here, in-nil, in-one}
 use Rattle.links.proofs.Circuit.{no-ring, one-ring, alone-in}
@@ -71,7 +71,7 @@ module _ {N N′ : ℕ → Node} {M : List Message} {told told′ joins : ℕ �
       lone : (R : ℕ) → firstSeq ≡ R → LeftLink N′ M i i R
       lone R f =
           let lseq : N′ i .lseq ≡ R = ap lseqOf (at .self) ∙ f in
-          let none : (w a n : ℕ) → ¬ (setL w i a n ∈ M) = λ w a n j. not-both (eq-eqb i i refl) (none-in (isNoticeTo i) quiet j) in
+          let none : (w a : ℕ) (n : Number) → ¬ (setL w i a n ∈ M) = λ w a n j. not-both (eq-eqb i i refl) (none-in (isNoticeTo i) quiet j) in
           record {
             reached = rw lseq (newer-irreflexive R);
             noticed = λ w a n j. absurd (none w a n j);
@@ -84,7 +84,7 @@ module _ {N N′ : ℕ → Node} {M : List Message} {told told′ joins : ℕ �
       number R (stored f e) = let same : Is firstSeq ≡ Is R = sym (ap rseqOf (at .self)) ∙ e in cc
       number R (coming h w j) = absurd (settled-in .0 (sym (ap statusOf (at .self)) ∙ h))
 
-      lefts : (v u R : ℕ) → v ≡ i → N′ v .right ≡ To u → Keeps N′ M v R → LeftLink N′ M v u R
+      lefts : (v u : ℕ) (R : Number) → v ≡ i → N′ v .right ≡ To u → Keeps N′ M v R → LeftLink N′ M v u R
       lefts v u R d r k =
           let here : u ≡ i = same-end r (ap (λ w. N′ w .right) d ∙ ap rightOf (at .self)) in
           rw (d, here) (lone R (number R (rw d at k)))
@@ -110,7 +110,7 @@ module _ {N N′ : ℕ → Node} {M : List Message} {told told′ joins : ℕ �
       keys : (u : ℕ) → N′ u .key ≡ N u .key
       keys = unchanged at keyOf refl
 
-      not-own : (v p new e n : ℕ) → setR v p new e n ∈ M → v ≢ i
+      not-own : (v p new e : ℕ) (n : Number) → setR v p new e n ∈ M → v ≢ i
       not-own v p new e n j f = not-both (request-deals v p new e n) (rw (← f) at (no-dealing dealt i (ap dealings is-in) j))
 
       not-gone : (u : ℕ) (s : Status) → Out ≢ s → N′ u .status ≡ s → u ≢ i

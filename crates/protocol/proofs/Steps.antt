@@ -15,7 +15,7 @@ use Rattle.truth.proofs.Laws.{both, by-test}
 use Rattle.truth.proofs.TestLaws.{_∈_, not-both}
 use Rattle.refusal.specs.Code.{Reason}
 use Rattle.refusal.specs.Rules.{no as refusal}
-use Rattle.sequence.specs.Sequence.{nextSeq, cappedNext}
+use Rattle.sequence.specs.Sequence.{Number, nextSeq, cappedNext}
 use Rattle.node.specs.declared.Status.the-variants.{Out, Del}
 use Rattle.node.specs.declared.Seq.the-variants.{Is}
 use Rattle.node.specs.declared.Message.{Message}
@@ -96,7 +96,7 @@ After h call r = Invariant (nodeAt (r .state)) (r .state .messages) (toldAfter (
 
 module _ (h : History) (g : Good h) where
   -- what the granting of a request shows
-  pub granting-of : {v p new e n k : ℕ} {rest : List Message} (q a b l : ℕ) → Taken (h .state .messages) (setR v p new e n) rest → p < length (h .state .nodes) → Grants (h .state) p e k
+  pub granting-of : {v p new e : ℕ} {n k : Number} {rest : List Message} (q a b l : ℕ) → Taken (h .state .messages) (setR v p new e n) rest → p < length (h .state .nodes) → Grants (h .state) p e k
       → Grant (nodeAt (h .state)) (listed (set (h .state .nodes) p (relinked (nodeAt (h .state) p) new n))) (h .state .messages) rest (rest ++ setL p q a b ∷ setRAck p v l ∷ []) (h .told) (h .joins) v p new e n q a b l
   granting-of {v} {p} {rest = rest} q a b l t k gr = record {
     dealt = dealt (g .formed);
@@ -109,12 +109,12 @@ module _ (h : History) (g : Good h) where
   }
 
   -- the event that a granted request of v to p is
-  pub granted-event : (place : ℕ) {m : Message} {v p new e n : ℕ} {b : Bool} → messageAt (h .state) place ≡ m → m ≡ setR v p new e n → h .joins v ≡ b
+  pub granted-event : (place : ℕ) {m : Message} {v p new e : ℕ} {n : Number} {b : Bool} → messageAt (h .state) place ≡ m → m ≡ setR v p new e n → h .joins v ≡ b
       → grantOf (h .joins) (messageAt (h .state) place) ≡ cond b (admitted v p) (released v p)
   granted-event place {v = v} {p} at em j = rw (at, em, j)
 
   -- a leaver whose request waits is declared, and has its right number
-  number : {p new e n : ℕ} {rest : List Message} (v : ℕ) → Taken (h .state .messages) (setR v p new e n) rest
+  number : {p new e : ℕ} {n : Number} {rest : List Message} (v : ℕ) → Taken (h .state .messages) (setR v p new e n) rest
       → statusAt (h .state) v ≡ Del → nodeAt (h .state) v .rseq ≡ Is (seqOf (nodeAt (h .state) v .rseq))
   number v t del =
       let fits = message-facts (length (h .state .nodes)) _ (g .formed .message _ (t .waits)) in
@@ -140,7 +140,7 @@ module _ (h : History) (g : Good h) where
   act-holds place at t k (ignores p u a n em out old er) = rw er (ignores-kept (dealt (g .formed)) (g .invariant) (rw em at t) old (set-at (h .state .nodes) (rw em at k)))
 
   -- what a waiting request names is declared
-  known : (v p new e n : ℕ) → setR v p new e n ∈ h .state .messages → (v ≢ length (h .state .nodes)) × (p ≢ length (h .state .nodes)) × (e ≢ length (h .state .nodes))
+  known : (v p new e : ℕ) (n : Number) → setR v p new e n ∈ h .state .messages → (v ≢ length (h .state .nodes)) × (p ≢ length (h .state .nodes)) × (e ≢ length (h .state .nodes))
   known v p new e n i =
       let size = length (h .state .nodes) in
       let fits = message-facts size _ (g .formed .message _ i) in

@@ -10,6 +10,7 @@ use native.Mathlib.Omega.{arith}
 use lib.ListN.{length, take, drop, length-append}
 use lib.Seq.{split-at}
 use borrow.Author.Tests.{eq-eqb}
+use Rattle.sequence.specs.Sequence.{Number}
 use Rattle.truth.specs.Tests.{bit, count, any}
 use Rattle.truth.proofs.TestLaws.{_∈_, decided, not-both, any-in, some-in, not-any, count-append, none-counted, bit-true}
 use Rattle.node.specs.declared.Status.{Status}
@@ -90,7 +91,7 @@ dealings-most Del = omega arith
 pub request-deals : (u p new e n : ℕ) → isDealingOf u (setR u p new e n) ≡ true
 request-deals u p new e n = rw (eq-eqb u u refl)
 
-pub ack-deals : (w u n : ℕ) → isDealingOf u (setRAck w u n) ≡ true
+pub ack-deals : (w u : ℕ) (n : Number) → isDealingOf u (setRAck w u n) ≡ true
 ack-deals w u n = eq-eqb u u refl
 
 pub nak-deals : (w u : ℕ) → isDealingOf u (setRNak w u) ≡ true

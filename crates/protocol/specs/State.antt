@@ -16,6 +16,7 @@ use Rattle.node.specs.declared.Node.{Node}
 use Rattle.node.specs.declared.Kind.{Kind}
 use Rattle.node.specs.declared.Kind.the-variants.{SetR, SetRAck, SetRNak, SetL}
 use Rattle.node.specs.declared.Message.{Message}
+use Rattle.node.specs.Tests.{isRequest, isAck, isNak, isNotice}
 use Rattle.node.specs.Shape.{declaredOf, capacity, nodeFits, messageFits}
 
 -- a node's number is its place among the nodes; messages stand in the order posted
@@ -51,31 +52,6 @@ abbrev pub rightAt : State → ℕ → Link
 rightAt s u = nodeAt s u .right
 
 -- ---- whom a message concerns
--- "A request is a SetR, of a joiner or a leaver"
-abbrev pub isRequest : Kind → Bool
-isRequest (SetR new expected number) = true
-isRequest (SetRAck number) = false
-isRequest SetRNak = false
-isRequest (SetL left number) = false
-
-abbrev pub isAck : Kind → Bool
-isAck (SetR new expected number) = false
-isAck (SetRAck number) = true
-isAck SetRNak = false
-isAck (SetL left number) = false
-
-abbrev pub isNak : Kind → Bool
-isNak (SetR new expected number) = false
-isNak (SetRAck number) = false
-isNak SetRNak = true
-isNak (SetL left number) = false
-
-abbrev pub isNotice : Kind → Bool
-isNotice (SetR new expected number) = false
-isNotice (SetRAck number) = false
-isNotice SetRNak = false
-isNotice (SetL left number) = true
-
 -- "answers SetRAck(number) and SetRNak"
 abbrev pub isAnswer : Kind → Bool
 isAnswer kind = isAck kind || isNak kind
