@@ -41,7 +41,7 @@ use Rattle.network.specs.declared.Network.{Network}
 use Rattle.network.specs.Arrays.{vacantNode, vacantMessage, live, wellFormed, held}
 use Rattle.calls.specs.Outcomes.{counted, refused, inArrays, applyOf}
 use Rattle.calls.specs.Changes.{added, closed, committed}
-use Rattle.calls.specs.Computed.{declareTests, createTests, afterStep, roomRules}
+use Rattle.calls.specs.Computed.{declareTests, createTests, afterStep, roomTests}
 use Rattle.network.proofs.Lengths.{Lengths}
 use Rattle.network.proofs.ArrayLaws.{formed, held-live}
 use Rattle.calls.proofs.RunLaws.{refused-here}
@@ -52,10 +52,10 @@ use Rattle.calls.proofs.Stores.{added-held, closed-held, committed-held
 use Rattle.calls.proofs.StepLaws.{join-says, leave-says, deliver-says}
 
 -- ---- where the code's check is clear
-pub room-cleared-by : (waiting : ℕ) (posts : List Message) → first (roomRules waiting posts) ≡ none → waiting + length posts ≤ queueLimit
-room-cleared-by waiting posts clear = leb-true _ _ (not-false _ (cleared (roomRules waiting posts) clear .0))
+pub room-cleared-by : (waiting : ℕ) (posts : List Message) → first (roomTests waiting posts) ≡ none → waiting + length posts ≤ queueLimit
+room-cleared-by waiting posts clear = leb-true _ _ (not-false _ (cleared (roomTests waiting posts) clear .0))
 
-pub room-cleared : {k : Check} (waiting : ℕ) (posts : List Message) → checked k ≡ first (roomRules waiting posts) → k ≡ Clear → waiting + length posts ≤ queueLimit
+pub room-cleared : {k : Check} (waiting : ℕ) (posts : List Message) → checked k ≡ first (roomTests waiting posts) → k ≡ Clear → waiting + length posts ≤ queueLimit
 room-cleared waiting posts says e = room-cleared-by waiting posts (sym says ∙ ap checked e)
 
 pub rest-cleared : {A : Type 0} {k : Check} (said : Coded A) (rules : List Rule) → checked k ≡ afterStep said (first rules) → k ≡ Clear → first rules ≡ none
@@ -186,24 +186,24 @@ module _ (n : Network) (l : Lengths n) (h : wellFormed n ≡ true) where
 
   pub join-says-here : (u p q : ℕ) (e : Effect) → u < n .count → p < n .count → q < n .count
       → e ≡ joinOf u (nodeAt (live n) u) (peerAt (live n) p) (peerAt (live n) q)
-      → afterStep (e .said) (first ((25 when noticeWaits (live n) u) ∷ roomRules (n .waiting) (e .posts))) ≡ first (joinRules (live n) u p q)
+      → afterStep (e .said) (first ((25 when noticeWaits (live n) u) ∷ roomTests (n .waiting) (e .posts))) ≡ first (joinRules (live n) u p q)
   join-says-here u p q e known left right step =
-      ap (λ k. afterStep (e .said) (first ((25 when noticeWaits (live n) u) ∷ roomRules k (e .posts)))) (sym (messages-length n l h))
-      ∙ ap (λ (f : Effect). afterStep (f .said) (first ((25 when noticeWaits (live n) u) ∷ roomRules (length (live n .messages)) (f .posts)))) step
+      ap (λ k. afterStep (e .said) (first ((25 when noticeWaits (live n) u) ∷ roomTests k (e .posts)))) (sym (messages-length n l h))
+      ∙ ap (λ (f : Effect). afterStep (f .said) (first ((25 when noticeWaits (live n) u) ∷ roomTests (length (live n .messages)) (f .posts)))) step
       ∙ join-says (live n) lists u p q (declared-live u known) (declared-live p left) (declared-live q right)
 
   pub leave-says-here : (u : ℕ) (e : Effect) → u < n .count → e ≡ leaveOf u (nodeAt (live n) u)
-      → afterStep (e .said) (first (roomRules (n .waiting) (e .posts))) ≡ first (leaveRules (live n) u)
+      → afterStep (e .said) (first (roomTests (n .waiting) (e .posts))) ≡ first (leaveRules (live n) u)
   leave-says-here u e known step =
-      ap (λ k. afterStep (e .said) (first (roomRules k (e .posts)))) (sym (messages-length n l h))
-      ∙ ap (λ (f : Effect). afterStep (f .said) (first (roomRules (length (live n .messages)) (f .posts)))) step
+      ap (λ k. afterStep (e .said) (first (roomTests k (e .posts)))) (sym (messages-length n l h))
+      ∙ ap (λ (f : Effect). afterStep (f .said) (first (roomTests (length (live n .messages)) (f .posts)))) step
       ∙ leave-says (live n) lists u (declared-live u known)
 
   pub deliver-says-here : (place : ℕ) (e : Effect) → place < n .waiting → e ≡ receiving (live n) (messageAt (live n) place)
-      → first (roomRules (n .waiting - 1) (e .posts)) ≡ first (deliverRules (live n) place)
+      → first (roomTests (n .waiting - 1) (e .posts)) ≡ first (deliverRules (live n) place)
   deliver-says-here place e waits step =
-      ap (λ k. first (roomRules (k - 1) (e .posts))) (sym (messages-length n l h))
-      ∙ ap (λ (f : Effect). first (roomRules (length (live n .messages) - 1) (f .posts))) step
+      ap (λ k. first (roomTests (k - 1) (e .posts))) (sym (messages-length n l h))
+      ∙ ap (λ (f : Effect). first (roomTests (length (live n .messages) - 1) (f .posts))) step
       ∙ deliver-says (live n) lists place (waits-live place waits)
 
   -- so a delivery where a message waits is not refused exactly where its posts find room
@@ -225,7 +225,7 @@ module _ (n : Network) (l : Lengths n) (h : wellFormed n ≡ true) where
   committed-by call u e known room step says clear = ap counted (commits u e known room ∙ ap inArrays (sym step) ∙ accepts-by call says clear)
 
   pub delivered-by : (place : ℕ) (d : Message) (e : Effect) {k : Check} → place < n .waiting → e ≡ receiving (live n) (messageAt (live n) place)
-      → checked k ≡ first (roomRules (n .waiting - 1) (e .posts)) → k ≡ Clear → committed (closed n place) (getD (n .messages) place d .to) e ≡ applyOf n (Deliver place)
+      → checked k ≡ first (roomTests (n .waiting - 1) (e .posts)) → k ≡ Clear → committed (closed n place) (getD (n .messages) place d .to) e ≡ applyOf n (Deliver place)
   delivered-by place d e waits step says clear =
       commits-closed place (getD (n .messages) place d .to) e waits (addressee-read place d waits) (room-cleared (n .waiting - 1) (e .posts) says clear)
       ∙ ap (λ (m : Message). inArrays (commit (live n) (m .to) (without place (live n .messages)) e)) (sym (message-live place d waits))

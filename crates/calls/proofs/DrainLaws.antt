@@ -26,7 +26,7 @@ use Rattle.network.specs.declared.Network.{Network}
 use Rattle.network.specs.Arrays.{vacantNode, vacantMessage, live, wellFormed, filled, held}
 use Rattle.calls.specs.Outcomes.{counted, applyOf, drainOf}
 use Rattle.calls.specs.Changes.{closed, committed}
-use Rattle.calls.specs.Computed.{roomRules}
+use Rattle.calls.specs.Computed.{roomTests}
 use Rattle.network.proofs.Lengths.{Lengths}
 use Rattle.network.proofs.ArrayLaws.{formed, live-held, held-well-formed}
 use Rattle.network.proofs.LiveLaws.{messages-length}
@@ -54,7 +54,7 @@ pub delivered-there : (n : Network) (l : Lengths n) (h : wellFormed n ≡ true) 
     → n .waiting - 1 + length (e .posts) ≤ queueLimit → e ≡ receiving (live n) (messageAt (live n) place)
     → committed (closed n place) (getD (n .messages) place d .to) e ≡ applyOf n (Deliver place)
 delivered-there n l h place d e waits room step =
-    let clear : checked Clear ≡ first (roomRules (n .waiting - 1) (e .posts)) = rw (le-leb (n .waiting - 1 + length (e .posts)) queueLimit room) in
+    let clear : checked Clear ≡ first (roomTests (n .waiting - 1) (e .posts)) = rw (le-leb (n .waiting - 1 + length (e .posts)) queueLimit room) in
     delivered-by n l h place d e waits step clear refl
 
 -- ---- a drain that has made some of its deliveries

@@ -19,7 +19,7 @@ use Rattle.protocol.specs.Calls.{refused as listsRefused, applyOf as applyToLis
 use Rattle.protocol.specs.History.{History, start, advanced, run as runLists, history}
 use Rattle.protocol.specs.Drain.{places, drained as drainedLists, drainOf as drainLists}
 use Rattle.protocol.proofs.Lively.{steady}
-use Rattle.protocol.proofs.Drains.{drain-is-calls}
+use Rattle.protocol.proofs.Drains.{deliveries-are-calls}
 use Rattle.protocol.proofs.Theorem.{ring}
 use Rattle.protocol.proofs.Posted.{refused-same as lists-refused-same, drain-refused-same as drain-lists-refused-same}
 use Rattle.network.specs.declared.Network.{Network}
@@ -103,9 +103,9 @@ module _ (calls : List Call) (budget : ℕ) where
 
   -- it is the one that the calls make with the drain's deliveries at their end
   pub run-drain : drainOf (run empty calls) budget .network ≡ run empty (calls ++ map Deliver (places budget (history calls .state)))
-  run-drain = rw (run-drained, drain-is-calls calls budget) (sym (run-empty (calls ++ map Deliver (places budget (history calls .state)))))
+  run-drain = rw (run-drained, deliveries-are-calls calls (places budget (history calls .state))) (sym (run-empty (calls ++ map Deliver (places budget (history calls .state)))))
 
   -- and the answer is how many these are, and how many messages wait there
   pub run-drain-says : drainOf (run empty calls) budget .said
       ≡ done (Ran (length (places budget (history calls .state))) (length (history (calls ++ map Deliver (places budget (history calls .state))) .state .messages)))
-  run-drain-says = rw (run-drained, drain-is-calls calls budget)
+  run-drain-says = rw (run-drained, deliveries-are-calls calls (places budget (history calls .state)))

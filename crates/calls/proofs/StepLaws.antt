@@ -35,7 +35,7 @@ use Rattle.protocol.specs.Calls.{isFull, peerAt, joinRules as joinCallRules, le
 use Rattle.protocol.proofs.Facts.{WellFormed, tested}
 use Rattle.protocol.proofs.Waiting.{taken}
 use Rattle.protocol.proofs.Cases.{received}
-use Rattle.calls.specs.Computed.{afterStep, roomRules}
+use Rattle.calls.specs.Computed.{afterStep, roomTests}
 
 -- ---- how much a step posts
 not-out : (status : Status) → isIn status ≡ true → isOut status ≡ false
@@ -128,7 +128,7 @@ module _ (s : State) (w : WellFormed s) where
   -- 25, and 28 of a join
   pub join-says : (u p q : ℕ) → declared s u ≡ true → declared s p ≡ true → declared s q ≡ true
       → afterStep (joinOf u (nodeAt s u) (peerAt s p) (peerAt s q) .said)
-      (first ((25 when noticeWaits s u) ∷ roomRules (length (s .messages)) (joinOf u (nodeAt s u) (peerAt s p) (peerAt s q) .posts)))
+      (first ((25 when noticeWaits s u) ∷ roomTests (length (s .messages)) (joinOf u (nodeAt s u) (peerAt s p) (peerAt s q) .posts)))
       ≡ first (joinCallRules s u p q)
   unfolding joinOf
   join-says u p q known left right =
@@ -138,7 +138,7 @@ module _ (s : State) (w : WellFormed s) where
 
   -- 28 of "a leave that posts"
   pub leave-says : (u : ℕ) → declared s u ≡ true
-      → afterStep (leaveOf u (nodeAt s u) .said) (first (roomRules (length (s .messages)) (leaveOf u (nodeAt s u) .posts))) ≡ first (leaveCallRules s u)
+      → afterStep (leaveOf u (nodeAt s u) .said) (first (roomTests (length (s .messages)) (leaveOf u (nodeAt s u) .posts))) ≡ first (leaveCallRules s u)
   unfolding leaveOf
   leave-says u known =
       let (o, says) = leaving-says u (nodeAt s u) in
@@ -147,18 +147,18 @@ module _ (s : State) (w : WellFormed s) where
       (λ clear. ⊎-elim (by-itself clear) (by-request clear) (decided (alone u (nodeAt s u)))))
     where
       by-itself : first (leaveRules u (nodeAt s u)) ≡ none → alone u (nodeAt s u) ≡ true
-          → first (roomRules (length (s .messages)) (leaveOf u (nodeAt s u) .posts)) ≡ first ((28 when isFull s && not (alone u (nodeAt s u))) ∷ [])
+          → first (roomTests (length (s .messages)) (leaveOf u (nodeAt s u) .posts)) ≡ first ((28 when isFull s && not (alone u (nodeAt s u))) ∷ [])
       by-itself clear e =
           let room = le-leb (length (s .messages) + length (leaveOf u (nodeAt s u) .posts)) queueLimit (omega (arith, alone-posts u (nodeAt s u) clear e, w .few-messages)) in
           rw (room, e, and-false (isFull s))
 
       by-request : first (leaveRules u (nodeAt s u)) ≡ none → alone u (nodeAt s u) ≡ false
-          → first (roomRules (length (s .messages)) (leaveOf u (nodeAt s u) .posts)) ≡ first ((28 when isFull s && not (alone u (nodeAt s u))) ∷ [])
+          → first (roomTests (length (s .messages)) (leaveOf u (nodeAt s u) .posts)) ≡ first ((28 when isFull s && not (alone u (nodeAt s u))) ∷ [])
       by-request clear e = rw (left-posts u (nodeAt s u) clear e, full-by-one (length (s .messages)), e, and-true)
 
   -- 28 of "the delivery of a SetR that would be granted"
   pub deliver-says : (place : ℕ) → place < length (s .messages)
-      → first (roomRules (length (s .messages) - 1) (receiving s (messageAt s place) .posts)) ≡ first (deliverRules s place)
+      → first (roomTests (length (s .messages) - 1) (receiving s (messageAt s place) .posts)) ≡ first (deliverRules s place)
   deliver-says place waits = ⊎-elim grantable other (decided (isGrantable s place))
     where
       m : Message
@@ -170,13 +170,13 @@ module _ (s : State) (w : WellFormed s) where
       present : ltb place (length (s .messages)) ≡ true
       present = lt-ltb place (length (s .messages)) waits
 
-      grantable : isGrantable s place ≡ true → first (roomRules (length (s .messages) - 1) (receiving s m .posts)) ≡ first (deliverRules s place)
+      grantable : isGrantable s place ≡ true → first (roomTests (length (s .messages) - 1) (receiving s m .posts)) ≡ first (deliverRules s place)
       grantable g =
           let two : length (receiving s m .posts) ≡ 2 = ap (λ (e : Effect). length (e .posts)) act ∙ granted-posts (m .to) (nodeAt s (m .to)) (m .sender) (m .kind) g in
           let all : length (s .messages) - 1 + length (receiving s m .posts) ≡ suc (length (s .messages)) = omega arith in
           simp (all, sound, present, g, and-true)
 
-      other : isGrantable s place ≡ false → first (roomRules (length (s .messages) - 1) (receiving s m .posts)) ≡ first (deliverRules s place)
+      other : isGrantable s place ≡ false → first (roomTests (length (s .messages) - 1) (receiving s m .posts)) ≡ first (deliverRules s place)
       other f =
           let one : length (receiving s m .posts) ≤ 1 = rw act (other-posts (m .to) (nodeAt s (m .to)) (m .sender) (m .kind) f) in
           let room = le-leb (length (s .messages) - 1 + length (receiving s m .posts)) queueLimit (omega (arith, w .few-messages)) in

@@ -37,6 +37,6 @@ abbrev pub afterStep : {A : Type 0} → Coded A → Option Reason → Option Rea
 afterStep (done a) rest = rest
 afterStep (no r) rest = some r
 
--- 28 "64 messages wait": the posts find no room after so many messages
-abbrev pub roomRules : ℕ → List Message → List Rule
-roomRules waiting posts = (28 when not (leb (waiting + length posts) queueLimit)) ∷ []
+-- the posts of a step find no room after so many messages, which is how the code comes to 28
+abbrev pub roomTests : ℕ → List Message → List Rule
+roomTests waiting posts = (28 when not (leb (waiting + length posts) queueLimit)) ∷ []

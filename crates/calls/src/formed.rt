@@ -19,7 +19,7 @@ ghost use Rattle.network.specs.Arrays.{vacantNode, live, wellFormed};
 ghost use Rattle.protocol.specs.Answer.{answered, accepted};
 ghost use Rattle.calls.specs.Outcomes.{called, counted, refused, applyOf};
 ghost use Rattle.calls.specs.Changes.{committed};
-ghost use Rattle.calls.specs.Computed.{declareTests, createTests, afterStep, roomRules};
+ghost use Rattle.calls.specs.Computed.{declareTests, createTests, afterStep, roomTests};
 use crate::Called;
 use crate::Report;
 use crate::store;
@@ -220,7 +220,7 @@ fn after_step(verdict: Verdict, rest: Check) -> Check
 
 fn check_room(waiting: u8, posts: Posts) -> Check
     requires { ⌜ waiting ≤ 64 ⌝ }
-    ensures { λ r. ⌜ checked r ≡ first (roomRules waiting (listed posts)) ⌝ }
+    ensures { λ r. ⌜ checked r ≡ first (roomTests waiting (listed posts)) ⌝ }
 {
     refusal::rule(!has_room(waiting, posts), Refusal::QueueFull, Check::Clear)
 }

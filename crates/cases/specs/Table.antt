@@ -3,12 +3,12 @@
 use mathlib.Core.Path.{_≡_}
 use mathlib.Core.Bool.{true, false}
 use mathlib.Core.List.{List, [], _∷_}
-use Prim.Native.Nat.{ℕ, _+_}
+use Prim.Native.Nat.{ℕ}
 use Rattle.refusal.specs.Code.{plain}
 use Rattle.refusal.specs.Rules.{done, no}
 use Rattle.serial.specs.Serial.{coded, packedOf, binaryOf}
 use Rattle.interval.specs.Interval.{between}
-use Rattle.sequence.specs.Sequence.{Number}
+use Rattle.sequence.specs.Sequence.{Number, nextSeq}
 use Rattle.node.specs.declared.Status.the-variants.{Out, In}
 use Rattle.node.specs.declared.Link.the-variants.{To}
 use Rattle.node.specs.declared.Seq.the-variants.{Is}
@@ -17,15 +17,15 @@ use Rattle.node.specs.declared.Outcome.the-variants.{LeftAlone, LeftSet, LeftOl
 use Rattle.node.specs.Shape.{declaredOf}
 use Rattle.node.specs.Actions.{setR, setRAck, setRNak, setL, quiet, posting, granting, leaveOf, receiveOf}
 
--- a row: two things that are equal; or a row for every number
+-- a row: two things that are equal; or a row for every sequence number
 pub data Case : Type 1 where
   _is_ : {A : Type 0} → A → A → Case
-  every : (ℕ → Case) → Case
+  every : (Number → Case) → Case
 
 infix 10 _is_
 abbrev pub Holds : Case → Type 0
 Holds (x is y) = x ≡ y
-Holds (every row) = (i : ℕ) → Holds (row i)
+Holds (every row) = (i : Number) → Holds (row i)
 
 abbrev pub AllHold : List Case → Type 0
 AllHold [] = Unit {0}
@@ -59,7 +59,7 @@ table =
     ∷ (receiveOf 0 (node0 1 2 2 0) (setL 3 0 3 2) is quiet (node0 1 2 2 0) LeftOld)
     ∷ (receiveOf 0 (node0 1 2 2 0) (setL 3 0 3 3) is quiet (node0 3 2 3 0) LeftSet)
     -- Left number i: SetL i+2 then i+1 leaves i+2 (004 Fig. 3).
-    ∷ every (λ i. receiveOf 0 (receiveOf 0 (node0 1 2 i 0) (setL 4 0 4 (i + 2)) .node) (setL 3 0 3 (i + 1)) is quiet (node0 4 2 (i + 2) 0) LeftOld)
+    ∷ every (λ i. receiveOf 0 (receiveOf 0 (node0 1 2 i 0) (setL 4 0 4 (nextSeq (nextSeq i))) .node) (setL 3 0 3 (nextSeq i)) is quiet (node0 4 2 (nextSeq (nextSeq i)) 0) LeftOld)
     -- Right number 65,534: a matching join is granted with SetL 65,535.
     ∷ (receiveOf 0 (node0 1 2 0 65_534) (setR 3 0 3 2 7) is granting (node0 1 3 0 7) (setL 0 2 3 65_535) (setRAck 0 3 65_535))
     -- At 65,535: denied; a matching leave is granted, SetRAck 65,535.

@@ -1,1 +1,1 @@
-// No code: the theory of rings of right links, over any number of nodes. Its words stand in specs/Walk.antt.
+// No code: the theory of rings of right links, over any number of nodes. Its words stand in specs/Walk.antt and Ring.antt.

@@ -22,9 +22,9 @@ use Rattle.node.specs.declared.Kind.{Kind}
 use Rattle.node.specs.declared.Kind.the-variants.{SetR, SetRAck, SetRNak, SetL}
 use Rattle.node.specs.declared.Message.{Message}
 use Rattle.node.specs.Shape.{linkFits, messageFits}
-use Rattle.node.specs.Tests.{linksTo, isRequest}
+use Rattle.node.specs.Tests.{linksTo, isRequest, isAnswer}
 use Rattle.node.proofs.FitLaws.{message-facts}
-use Rattle.protocol.specs.State.{isAnswer, isDealingOf}
+use Rattle.protocol.specs.State.{isDealingOf}
 use Rattle.network.specs.Walks.{dealerBy}
 use Rattle.network.proofs.Places.{count-longer}
 

@@ -30,7 +30,7 @@ use Rattle.node.specs.Shape.{linkFits, nodeFits, kindFits, messageFits, 
 use Rattle.node.specs.Tests.{isOut, isIn, isInOrDel, linked, numbered, target, seqOf, linksTo}
 use Rattle.node.specs.declared.Outcome.{Outcome}
 use Rattle.node.specs.declared.Outcome.the-variants.{Waiting, LeftOld, Dropped}
-use Rattle.node.specs.Actions.{Effect, refused, quiet, posting, setL, withStatus, createRules, created, creating, createOf, joinRules, joining, asking, joinOf, alone, leaveRules, leaveRequest, leaving, leaveOf, grants, notice, ack, relinked, granting, onSetR, admitted, onSetRAck, onSetRNak, leftSet, onSetL, onKind, actOf, receiveRules, receiveOf}
+use Rattle.node.specs.Actions.{Effect, refused, quiet, posting, setL, withStatus, createRules, created, creating, createOf, joinRules, joining, asking, joinOf, alone, leaveRules, leaveRequest, leaving, leaveOf, grants, notice, ack, relinked, granting, onSetR, confirmed, onSetRAck, onSetRNak, leftSet, onSetL, onKind, actOf, receiveRules, receiveOf}
 use Rattle.node.proofs.ActionLaws.{Grant, granted}
 
 -- ---- the facts that the test of a node says
@@ -128,8 +128,8 @@ module _ {count : ℕ} {u : Node} (f : NodeFits count u) where
       let (l, r) = both-linked e in
       record { key = f .key; left = f .left; right = f .right; links = or-right (isOut s) _ (rw l r); seq = or-right (not (isInOrDel s)) _ n }
 
-  pub admitted-fits : (number : ℕ) → isOut (u .status) ≡ false → NodeFits count (admitted u number)
-  admitted-fits number e =
+  pub confirmed-fits : (number : ℕ) → isOut (u .status) ≡ false → NodeFits count (confirmed u number)
+  confirmed-fits number e =
       let (l, r) = both-linked e in
       record { key = f .key; left = f .left; right = f .right; links = rw l r; seq = refl }
 
@@ -197,7 +197,7 @@ module _ (count me : ℕ) (me-in : ltb me count ≡ true) (u : Node) (f : NodeFi
 
     set-r-ack-fits : (number : ℕ) (s : Status) → u .status ≡ s → EffectFits count (onSetRAck s u number)
     set-r-ack-fits number Out e = quiet-fits f Dropped
-    set-r-ack-fits number Ins e = record { node = admitted-fits f number (ap isOut e); posts = tt }
+    set-r-ack-fits number Ins e = record { node = confirmed-fits f number (ap isOut e); posts = tt }
     set-r-ack-fits number In e = quiet-fits f Dropped
     set-r-ack-fits number Del e = record { node = out-fits f; posts = tt }
 

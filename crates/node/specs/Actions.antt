@@ -178,12 +178,12 @@ onSetR me p v new expected number =
     (denied me p v)
 
 -- ---- "SetRAck at ins: in, right number := its number. At del: out." "Answers at a bench that is in are dropped too."
-abbrev pub admitted : Node → Number → Node
-admitted u number = withStatus In (withRight (u .right) (Is number) u)
+abbrev pub confirmed : Node → Number → Node
+confirmed u number = withStatus In (withRight (u .right) (Is number) u)
 
 abbrev pub onSetRAck : Status → Node → Number → Effect
 onSetRAck Out u number = quiet u Dropped
-onSetRAck Ins u number = quiet (admitted u number) Joined
+onSetRAck Ins u number = quiet (confirmed u number) Joined
 onSetRAck In u number = quiet u Dropped
 onSetRAck Del u number = quiet (withStatus Out u) Gone
 

@@ -1,9 +1,9 @@
 -- Tests of the parts of a node and of a message: its status, a link, a number that a node may lack, a kind. Each goes by cases, once.
 -- Definitions only.
 use Prim.Native.Nat.{ℕ}
-use mathlib.Core.Bool.{Bool, true, false}
+use mathlib.Core.Bool.{Bool, true, false, _||_}
 use lib.Dec.{eqb}
-use Rattle.sequence.specs.Sequence.{Number, firstSeq}
+use Rattle.sequence.specs.Sequence.{Number, firstSeq, isSeq}
 use Rattle.node.specs.declared.Status.{Status}
 use Rattle.node.specs.declared.Status.the-variants.{Out, Ins, In, Del}
 use Rattle.node.specs.declared.Link.{Link}
@@ -42,7 +42,7 @@ abbrev pub linksTo : Link → ℕ → Bool
 linksTo Unlinked m = false
 linksTo (To n) m = eqb n m
 
--- the node that a link names; a link is missing only where refusal 6 comes first
+-- the node that a link names; it is used only where the link is there
 abbrev pub target : Link → ℕ
 target Unlinked = 0
 target (To n) = n
@@ -52,7 +52,7 @@ abbrev pub numbered : Seq → Bool
 numbered Unset = false
 numbered (Is n) = true
 
--- the number; it is missing only where refusal 6 comes first
+-- the number; it is used only where it is there
 abbrev pub seqOf : Seq → Number
 seqOf Unset = firstSeq
 seqOf (Is n) = n
@@ -82,3 +82,18 @@ isNotice (SetR new expected number) = false
 isNotice (SetRAck number) = false
 isNotice SetRNak = false
 isNotice (SetL left number) = true
+
+-- "answers SetRAck(number) and SetRNak"
+abbrev pub isAnswer : Kind → Bool
+isAnswer kind = isAck kind || isNak kind
+
+-- ---- "numbers are at most 65,535": of a right number, and of the number that a message carries
+abbrev pub seqFits : Seq → Bool
+seqFits Unset = true
+seqFits (Is n) = isSeq n
+
+abbrev pub numberFits : Kind → Bool
+numberFits (SetR new expected number) = isSeq number
+numberFits (SetRAck number) = isSeq number
+numberFits SetRNak = true
+numberFits (SetL left number) = isSeq number

@@ -1,4 +1,5 @@
-// What a step answers, and the setters of a node: of its status, and of each link with its number. Every action is put together from these.
+// What a step answers, and the setters of a node: of its status, and of each link with its number. Every node that an
+// action leaves is put together from these.
 ghost use mathlib.Core.Path.{_≡_};
 ghost use Rattle.refusal.specs.Code.{reason};
 ghost use Rattle.node.specs.Actions.{effect, refused, quiet, posting, withStatus, withLeft, withRight};

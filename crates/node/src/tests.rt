@@ -1,5 +1,5 @@
 // Tests of the parts of a node and of a message, and what a link or a number that a node may lack stands for. Each goes by cases here, and
-// nowhere else in the tree.
+// nowhere else.
 ghost use mathlib.Core.Path.{_≡_};
 ghost use lib.ListN.{length};
 ghost use Rattle.node.specs.Tests.{isOut, isIn, isInOrDel, linked, linksTo, target, numbered, seqOf, isAck, isNak, isNotice};

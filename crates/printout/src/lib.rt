@@ -82,7 +82,7 @@ fn put_answer(line: &mut [u8; 40], at: usize, answer: Answer) -> usize
     }
 }
 
-// The line of a record, and how many bytes it has.
+// The line of a record, and how many bytes it has; what stands past it is left open.
 pub fn line(ordinal: u32, answer: Answer, line: &mut [u8; 40]) -> usize
     ensures { λ r. ⌜ Counts r (now (line .exit)) ⌝ }
     ensures { λ r. ⌜ take r (now (line .exit)) ≡ lineOf ordinal (answered answer) ⌝ }
@@ -94,7 +94,7 @@ pub fn line(ordinal: u32, answer: Answer, line: &mut [u8; 40]) -> usize
     text::append(line, at, b"\n")
 }
 
-// The last line, from the messages that wait and all that were ever posted.
+// The last line, from the messages that wait and all that were ever posted; what stands past it is left open.
 pub fn last_line(waiting: u8, posted: u32, line: &mut [u8; 40]) -> usize
     ensures { λ r. ⌜ Counts r (now (line .exit)) ⌝ }
     ensures { λ r. ⌜ take r (now (line .exit)) ≡ lastLine waiting posted ⌝ }

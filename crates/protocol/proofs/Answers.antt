@@ -14,7 +14,7 @@ use Rattle.node.specs.declared.Status.the-variants.{Out, Ins, In, Del}
 use Rattle.node.specs.declared.Seq.the-variants.{Is}
 use Rattle.node.specs.declared.Node.{Node}
 use Rattle.node.specs.declared.Message.{Message}
-use Rattle.node.specs.Actions.{setR, setRAck, setRNak, setL, withStatus, admitted}
+use Rattle.node.specs.Actions.{setR, setRAck, setRNak, setL, withStatus, confirmed}
 use Rattle.protocol.specs.State.{isAckTo, isDealingOf, isInserted}
 use Rattle.node.specs.Tests.{isNotice}
 use Rattle.protocol.proofs.Nodes.{At, unchanged}
@@ -86,7 +86,7 @@ denied-before {p} {i} dealt t st = member-same st (no-ack dealt i t (nak-deals p
 
 module _ {N N′ : ℕ → Node} {M rest : List Message} {told joins : ℕ → Bool} {p i : ℕ} (dealt : Dealt N M) (inv : Invariant N M told joins) where
   -- "SetRAck at ins: in, right number := its number": it was inserted from the grant on, with that number
-  pub joins-kept : (n : ℕ) → Taken M (setRAck p i n) rest → N i .status ≡ Ins → At N i (admitted (N i) n) N′ → Invariant N′ rest told joins
+  pub joins-kept : (n : ℕ) → Taken M (setRAck p i n) rest → N i .status ≡ Ins → At N i (confirmed (N i) n) N′ → Invariant N′ rest told joins
   joins-kept n t ins at =
       answered dealt inv t at (ack-deals p i n) refl (ack-elsewhere p i n) settled-in refl refl refl refl
       (member-same (ap statusOf (at .self)) refl ∙ sym (acked-before N t ins)) keep

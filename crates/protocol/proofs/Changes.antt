@@ -20,7 +20,7 @@ use Rattle.node.specs.declared.Message.{Message}
 use Rattle.node.specs.declared.Outcome.{Outcome}
 use Rattle.node.specs.declared.Outcome.the-variants.{Created, Waiting, LeftAlone, Granted, Denied, Joined, Gone, JoinDenied, LeaveDenied, LeftSet, LeftOld, Dropped}
 use Rattle.node.specs.Shape.{capacity}
-use Rattle.node.specs.Actions.{setR, setRAck, setRNak, setL, withStatus, created, joining, relinked, admitted, leftSet}
+use Rattle.node.specs.Actions.{setR, setRAck, setRNak, setL, withStatus, created, joining, relinked, confirmed, leftSet}
 use Rattle.protocol.specs.declared.Call.{Call}
 use Rattle.protocol.specs.declared.Order.the-variants.{Declare, Create, Join, Leave}
 use Rattle.protocol.specs.declared.Call.the-variants.{Order, Deliver}
@@ -92,7 +92,7 @@ pub data Act (s : State) (m : Message) (rest : List Message) (r : Result) : Type
   lets-go : (v p new e : ℕ) (n k : Number) → m ≡ setR v p new e n → new ≢ v → Grants s p e k
       → r ≡ sent s p (relinked (nodeAt s p) new n) rest (setL p new p n ∷ setRAck p v (cappedNext k) ∷ []) Granted → Act s m rest r
   denies : (v p new e : ℕ) (n : Number) → m ≡ setR v p new e n → statusAt s p ≢ Out → r ≡ sent s p (nodeAt s p) rest (setRNak p v ∷ []) Denied → Act s m rest r
-  joins : (p u : ℕ) (n : Number) → m ≡ setRAck p u n → statusAt s u ≡ Ins → r ≡ moved s u (admitted (nodeAt s u) n) rest Joined → Act s m rest r
+  joins : (p u : ℕ) (n : Number) → m ≡ setRAck p u n → statusAt s u ≡ Ins → r ≡ moved s u (confirmed (nodeAt s u) n) rest Joined → Act s m rest r
   goes : (p u : ℕ) (n : Number) → m ≡ setRAck p u n → statusAt s u ≡ Del → r ≡ moved s u (withStatus Out (nodeAt s u)) rest Gone → Act s m rest r
   stays-out : (p u : ℕ) → m ≡ setRNak p u → statusAt s u ≡ Ins → r ≡ moved s u (withStatus Out (nodeAt s u)) rest JoinDenied → Act s m rest r
   stays-in : (p u : ℕ) → m ≡ setRNak p u → statusAt s u ≡ Del → r ≡ moved s u (withStatus In (nodeAt s u)) rest LeaveDenied → Act s m rest r

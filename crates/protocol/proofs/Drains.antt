@@ -20,9 +20,11 @@ use Rattle.protocol.specs.State.{State, wellFormed}
 use Rattle.protocol.specs.Calls.{isFull, applyOf}
 use Rattle.protocol.specs.History.{History, start, advanced, run, history}
 use Rattle.protocol.specs.Answer.{accepted}
-use Rattle.protocol.specs.Drain.{lowestFrom, lowest, afterDelivery, places, deliverAll}
+use Rattle.protocol.specs.Drain.{lowestFrom, lowest, afterDelivery, places, deliverAll, drained, drainOf}
 use Rattle.protocol.specs.FurtherClaims.{Drains, DrainClaim, DrainIsCalls}
 use Rattle.protocol.proofs.Lively.{steady}
+use Rattle.protocol.proofs.Posted.{posts-of-all}
+use Rattle.protocol.proofs.Theorem.{ring}
 
 -- whether a delivery at a place is not refused
 abbrev pub canDeliver : State → ℕ → Bool
@@ -88,30 +90,35 @@ pub places-next : (budget : ℕ) (s : State) (place : ℕ) → lowest s ≡ some
 places-next budget s place e = rw e
 
 -- ---- what a drain comes to
+pub drain-is : (s : State) (budget : ℕ) → T (wellFormed s) → drainOf s budget ≡ drained s (places budget s)
+unfolding drainOf
+drain-is s budget w = rw (is-true (wellFormed s) w)
+
 nothing-left : {A : Type 0} (l : List A) → length l ≡ 0 → l ≡ []
 nothing-left [] e = refl
 nothing-left (x ∷ l) e = absurd (omega arith)
 
-nothing-to-drain : (s : State) (budget : ℕ) → length (s .messages) ≡ 0 → Drains s budget
-nothing-to-drain s budget e =
+nothing-to-drain : (s : State) → T (wellFormed s) → (budget : ℕ) → length (s .messages) ≡ 0 → Drains s budget
+nothing-to-drain s w budget e =
     let made : places budget s ≡ [] = places-none budget s e in
-    record { within-budget = rw made (omega arith); none-refused = rw made; to-the-end = λ _. rw made (nothing-left (s .messages) e) }
+    record { result = drain-is s budget w; within-budget = rw made (omega arith); none-refused = rw made; to-the-end = λ _. rw made (nothing-left (s .messages) e) }
 
-one-more : (s : State) (budget place : ℕ) → lowest s ≡ some place → canDeliver s place ≡ true → Drains (afterDelivery s place) budget → Drains s (suc budget)
-one-more s budget place e can d =
+one-more : (s : State) → T (wellFormed s) → (budget place : ℕ) → lowest s ≡ some place → canDeliver s place ≡ true → Drains (afterDelivery s place) budget → Drains s (suc budget)
+one-more s w budget place e can d =
     let next = places-next budget s place e in
     record {
+      result = drain-is s (suc budget) w;
       within-budget = rw next (omega arith);
       none-refused = rw next (omega (arith, bit-true can));
       to-the-end = λ l. rw next (d .to-the-end (omega (arith, ap length next)));
     }
 
 pub drains : DrainClaim
-drains s w zero = record { within-budget = omega arith; none-refused = refl; to-the-end = λ l. absurd (omega arith) }
+drains s w zero = record { result = drain-is s zero w; within-budget = omega arith; none-refused = refl; to-the-end = λ l. absurd (omega arith) }
 drains s w (suc budget) =
     ⊎-elim
-    (nothing-to-drain s (suc budget))
-    (λ some-wait. let (place, e, can) = finds-lowest s w some-wait in one-more s budget place e can (drains (afterDelivery s place) (steady s w .kept (Deliver place)) budget))
+    (nothing-to-drain s w (suc budget))
+    (λ some-wait. let (place, e, can) = finds-lowest s w some-wait in one-more s w budget place e can (drains (afterDelivery s place) (steady s w .kept (Deliver place)) budget))
     (eq-zero-or-pos (length (s .messages)))
 
 -- ---- its deliveries as calls
@@ -123,7 +130,11 @@ run-deliveries : (h : History) (places : List ℕ) → deliverAll (h .state) pla
 run-deliveries h [] = refl
 run-deliveries h (place ∷ places) = run-deliveries (advanced h (Deliver place)) places
 
+pub deliveries-are-calls : (calls : List Call) (places : List ℕ) → deliverAll (history calls .state) places ≡ history (calls ++ map Deliver places) .state
+deliveries-are-calls calls places = run-deliveries (history calls) places ∙ ap (λ (h : History). h .state) (sym (run-append start calls (map Deliver places)))
+
 pub drain-is-calls : DrainIsCalls
 drain-is-calls calls budget =
-    let made = places budget (history calls .state) in
-    run-deliveries (history calls) made ∙ ap (λ (h : History). h .state) (sym (run-append start calls (map Deliver made)))
+    let s = history calls .state in
+    let is = drain-is s budget (ring calls .well-formed) in
+    record { state = rw is (deliveries-are-calls calls (places budget s)); posts = rw is (posts-of-all s (places budget s)) }

@@ -20,7 +20,7 @@ use Rattle.node.specs.declared.Message.{Message}
 use Rattle.node.specs.Shape.{messageFits}
 use Rattle.node.specs.Tests.{isOut, isInOrDel, numbered}
 use Rattle.node.specs.Actions.{setR, setRAck, setRNak, setL, withStatus, created, joining, relinked}
-use Rattle.node.proofs.FitLaws.{NodeFits, MessageFits, message-facts, PostsFit, message-fits, created-fits, joining-fits, out-fits, status-fits, admitted-fits, relinked-fits, left-set-fits}
+use Rattle.node.proofs.FitLaws.{NodeFits, MessageFits, message-facts, PostsFit, message-fits, created-fits, joining-fits, out-fits, status-fits, confirmed-fits, relinked-fits, left-set-fits}
 use Rattle.protocol.specs.declared.Call.{Call}
 use Rattle.protocol.specs.State.{State, queueLimit, nodeAt, statusAt, keyAt, isDealingOf, dealings}
 use Rattle.protocol.specs.Calls.{Result, peerAt}
@@ -169,7 +169,7 @@ module _ {s : State} (w : WellFormed s) where
   act-kept t h (denies v p new e n em o er) = rw er (moved-kept w (deny-kept (rw em at t) (rw em at h)))
   act-kept t h (joins p u n em e er) =
       let h : u < length (s .nodes) = rw em at h in
-      rw er (moved-kept w (is-answered t h (rw em (own u)) (ap dealings e) refl (admitted-fits (w .node u h) n (ap isOut e))))
+      rw er (moved-kept w (is-answered t h (rw em (own u)) (ap dealings e) refl (confirmed-fits (w .node u h) n (ap isOut e))))
   act-kept t h (goes p u n em e er) =
       let h : u < length (s .nodes) = rw em at h in
       rw er (moved-kept w (is-answered t h (rw em (own u)) (ap dealings e) refl (out-fits (w .node u h))))

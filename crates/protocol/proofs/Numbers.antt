@@ -14,7 +14,8 @@ use Rattle.node.specs.declared.Node.{Node}
 use Rattle.node.specs.declared.Message.{Message}
 use Rattle.node.specs.Actions.{setR, setRAck, setRNak, setL}
 use Rattle.protocol.specs.declared.Call.{Call}
-use Rattle.protocol.specs.State.{State, nodeAt, seqFits, numberFits, numbersFit}
+use Rattle.protocol.specs.State.{State, nodeAt, numbersFit}
+use Rattle.node.specs.Tests.{seqFits, numberFits}
 use Rattle.protocol.specs.Calls.{Result}
 use Rattle.protocol.proofs.Fields.{lseqOf, rseqOf}
 use Rattle.protocol.proofs.Nodes.{At, set-at, declared-at}

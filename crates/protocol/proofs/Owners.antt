@@ -2,7 +2,7 @@
 -- search follows the walk along right links; the ring has one owner, the walk meets it in fewer moves than there are members, and the
 -- members are no more than the nodes, which are the hops allowed. Assumes nothing.
 use mathlib.Core.Path.{_≡_, refl, sym, ap, _∙_, subst}
-use mathlib.Core.Logic.{_↔_}
+use mathlib.Core.Logic.{_↔_, _≢_}
 use mathlib.Core.Bool.{true, false}
 use mathlib.Core.List.{List}
 use mathlib.Core.Option.{Option, none, some}
@@ -43,6 +43,7 @@ use Rattle.protocol.proofs.Theorem.{good, listed-inserted}
 record Finds (s : State) (m u hops : ℕ) (walk : Walk) : Type 0 where
   added : ℕ
   reached : after (rightAt s) u added ≡ m
+  earlier : (k : ℕ) → k < added → after (rightAt s) u k ≢ m
   answer : walk ≡ found m (added + hops)
 
 module _ (s : State) (serial : ℕ) {L : List ℕ} (ring : Ring (keyAt s) (rightAt s) L) (o : KeyOwner (keyAt s) (rightAt s) serial L) where
@@ -52,7 +53,7 @@ module _ (s : State) (serial : ℕ) {L : List ℕ} (ring : Ring (keyAt s) (right
     stops : (hops : ℕ) → u ∈ L → within (keyAt s u) (keyAt s q) serial ≡ true → Finds s (o .node) u hops (found u hops)
     stops hops i t =
         let e = o .only u i (record { next = q; link = link; within = within-iff (keyAt s u) (keyAt s q) serial .0 (holds t) }) in
-        record { added = 0; reached = e; answer = let none-added : hops ≡ 0 + hops = omega arith in cc }
+        record { added = 0; reached = e; earlier = λ k l. absurd (omega arith); answer = let none-added : hops ≡ 0 + hops = omega arith in cc }
 
     -- and at the owner the test holds
     at-owner : u ≡ o .node → within (keyAt s u) (keyAt s q) serial ≡ false → ⊥
@@ -61,19 +62,24 @@ module _ (s : State) (serial : ℕ) {L : List ℕ} (ring : Ring (keyAt s) (right
         not-both (is-true _ (within-iff (keyAt s u) (keyAt s q) serial .1 inside)) f
 
     -- what is found from q on, is found from u on with a hop more
-    goes-on : {hops : ℕ} {walk : Walk} → Finds s (o .node) q (suc hops) walk → Finds s (o .node) u hops walk
-    goes-on {hops} f = record {
+    goes-on : {hops : ℕ} {walk : Walk} → u ≢ o .node → Finds s (o .node) q (suc hops) walk → Finds s (o .node) u hops walk
+    goes-on {hops} not-here f = record {
       added = suc (f .added);
       reached = rw (move-to (rightAt s) link) (f .reached);
+      earlier = earlier;
       answer = let one-more : f .added + suc hops ≡ suc (f .added) + hops = omega arith in cc;
     }
+      where
+        earlier : (k : ℕ) → k < suc (f .added) → after (rightAt s) u k ≢ o .node
+        earlier zero l = not-here
+        earlier (suc k) l = rw (move-to (rightAt s) link) (f .earlier k (omega arith))
 
     step : (left hops : ℕ) → u ∈ L
         → (within (keyAt s u) (keyAt s q) serial ≡ false → Finds s (o .node) q (suc hops) (ownerFrom s serial left q (suc hops)))
         → Finds s (o .node) u hops (ownerFrom s serial (suc left) u hops)
     step left hops i beyond =
         subst (λ (r : Link). Finds s (o .node) u hops (ownerAt s serial u hops r (λ v. ownerFrom s serial left v (suc hops)))) (sym link)
-        (by-test (Finds s (o .node) u hops) (within (keyAt s u) (keyAt s q) serial) _ _ (stops hops i) (λ f. goes-on (beyond f)))
+        (by-test (Finds s (o .node) u hops) (within (keyAt s u) (keyAt s q) serial) _ _ (stops hops i) (λ f. goes-on (λ e. at-owner e f) (beyond f)))
 
   -- with more hops left than moves to the owner, it is found
   search : (left u hops k : ℕ) → u ∈ L → k < left → after (rightAt s) u k ≡ o .node → Finds s (o .node) u hops (ownerFrom s serial left u hops)
@@ -118,6 +124,7 @@ module _ (s : State) (formed : T (wellFormed s)) {L : List ℕ} (ring : Ring (ke
         };
         only = λ u w. o .only u (member u .1 (w .inserted)) (record { next = w .next; link = w .right; within = within-iff _ _ _ .0 (w .holds) });
         reached = f .reached;
+        first = f .earlier;
       }
 
 -- ---- after any list of calls

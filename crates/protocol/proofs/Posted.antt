@@ -1,25 +1,29 @@
--- What calls post: each two messages at most, and none where it is refused, which also leaves the network as it was; and the posts of
--- deliveries one after the other. Assumes nothing.
-use mathlib.Core.Path.{_≡_, refl, ap, _∙_}
-use mathlib.Core.Bool.{false, not}
-use mathlib.Core.List.{List, [], _∷_, _++_, map}
+-- What calls post: each two messages at most, and none where it is refused, which also leaves the network as it was; they stand at the end of
+-- the queue; and the posts of deliveries one after the other. Assumes nothing.
+use mathlib.Core.Path.{_≡_, refl, sym, ap, _∙_}
+use mathlib.Core.Bool.{true, false, not}
+use mathlib.Core.List.{List, [], _∷_, _++_, map, append-nil}
 use mathlib.Core.Option.{Option, none, some}
 use Prim.Native.Nat.{ℕ, _+_, _*_, _≤_}
 use native.Mathlib.Omega.{arith}
 use lib.ListN.{length, length-append}
 use lib.Dec.{T}
+use Rattle.truth.proofs.TestLaws.{is-true}
 use Rattle.refusal.specs.Code.{Reason}
 use Rattle.refusal.specs.Rules.{no, _when_, first, settled}
 use Rattle.node.specs.declared.Message.{Message}
 use Rattle.protocol.specs.declared.Call.{Call}
-use Rattle.protocol.specs.declared.Call.the-variants.{Deliver}
+use Rattle.protocol.specs.declared.Order.the-variants.{Declare, Create, Join, Leave}
+use Rattle.protocol.specs.declared.Call.the-variants.{Order, Deliver}
 use Rattle.protocol.specs.State.{State, wellFormed}
-use Rattle.protocol.specs.Calls.{Result, refused, applyOf}
+use Rattle.protocol.specs.Calls.{Result, refused, rulesOf, effectOf, applyOf}
+use Rattle.protocol.specs.Answer.{accepted}
+use Rattle.protocol.specs.FurtherClaims.{remaining, PostsClaim}
 use Rattle.protocol.specs.History.{History, advanced, run, posted}
 use Rattle.protocol.specs.Drain.{afterDelivery, places, postsOfAll, drained, drainOf}
 use Rattle.protocol.proofs.Changes.{Act, drops, lets-in, lets-go, denies, joins, goes, stays-out, stays-in, takes, ignores}
-use Rattle.protocol.proofs.Changes.{declares, creates, asks, goes-alone, leaves, delivers, Change, refuses, accepts}
-use Rattle.protocol.proofs.Cases.{change}
+use Rattle.protocol.proofs.Changes.{Accepted, declares, creates, asks, goes-alone, leaves, delivers, Change, refuses, accepts}
+use Rattle.protocol.proofs.Cases.{change, accepted-case}
 use Rattle.protocol.proofs.Refusals.{accepted-said}
 
 -- ---- two messages at most
@@ -62,6 +66,27 @@ drain-refused-same s budget r e = go (first ((6 when not (wellFormed s)) ∷ [])
     go : (o : Option Reason) → settled o (refused s) (drained s (places budget s)) .said ≡ no r → settled o (refused s) (drained s (places budget s)) ≡ refused s r
     go none f = let z : _≡_ {A = ℕ} 0 1 = cc in absurd (omega arith)
     go (some n) f = let same : n ≡ r = cc in ap (refused s) same
+
+-- ---- what is posted stands at the end of the queue, behind what remains
+posts-behind : (s : State) (call : Call) → accepted (effectOf s call .said) ≡ true → effectOf s call .state .messages ≡ remaining s call (effectOf s call .said) ++ effectOf s call .posts
+posts-behind s (Order (Declare key)) e = sym (append-nil (s .messages))
+posts-behind s (Order (Create u)) e = refl
+posts-behind s (Order (Join u p q)) e = refl
+posts-behind s (Order (Leave u)) e = refl
+posts-behind s (Deliver place) e = rw e
+
+remaining-refused : (s : State) (call : Call) (r : Reason) → s .messages ≡ remaining s call (no r) ++ []
+remaining-refused s (Order order) r = sym (append-nil (s .messages))
+remaining-refused s (Deliver place) r = sym (append-nil (s .messages))
+
+pub posts-at-the-end : PostsClaim
+unfolding applyOf
+posts-at-the-end s call = go (first (rulesOf s call)) (accepted-case s call)
+  where
+    go : (o : Option Reason) → (o ≡ none → Accepted s call (effectOf s call))
+        → let r = settled o (refused s) (effectOf s call) in r .state .messages ≡ remaining s call (r .said) ++ r .posts
+    go none a = posts-behind s call (is-true _ (accepted-said (a refl)))
+    go (some r) a = remaining-refused s call r
 
 -- ---- deliveries one after the other
 pub posts-of-all : (s : State) (places : List ℕ) → length (postsOfAll s places) ≡ posted s (map Deliver places)

@@ -30,7 +30,7 @@ pub data Event : Type 0 where
 abbrev pub grantOf : (ℕ → Bool) → Message → Event
 grantOf joins m = cond (joins (m .sender)) (admitted (m .sender) (m .to)) (released (m .sender) (m .to))
 
--- what a call with this answer did; `joins` says whose last order that was not refused was a join
+-- what a call with this answer did; `joins` says of whom the last join or leave that was not refused was a join
 abbrev pub eventOf : State → (ℕ → Bool) → Call → Coded Reply → Event
 eventOf s joins (Order (Declare key)) said = stays
 eventOf s joins (Order (Create u)) said = cond (accepted said) (founded u) stays

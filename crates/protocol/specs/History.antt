@@ -14,7 +14,7 @@ use Rattle.protocol.specs.Calls.{applyOf}
 use Rattle.protocol.specs.Answer.{accepted}
 use Rattle.protocol.specs.Events.{Event, eventOf, put, toldAfter}
 
--- ---- the list so far: the network it leads to, who is told inserted, and whose last order that was not refused was a join
+-- ---- the list so far: the network it leads to, who is told inserted, and of whom the last join or leave that was not refused was a join
 pub record History : Type 0 where
   pub state : State
   pub told : ℕ → Bool

@@ -10,13 +10,9 @@ use Rattle.sequence.specs.Sequence.{isSeq}
 use Rattle.node.specs.declared.Status.{Status}
 use Rattle.node.specs.declared.Status.the-variants.{Out, Ins, In, Del}
 use Rattle.node.specs.declared.Link.{Link}
-use Rattle.node.specs.declared.Seq.{Seq}
-use Rattle.node.specs.declared.Seq.the-variants.{Unset, Is}
 use Rattle.node.specs.declared.Node.{Node}
-use Rattle.node.specs.declared.Kind.{Kind}
-use Rattle.node.specs.declared.Kind.the-variants.{SetR, SetRAck, SetRNak, SetL}
 use Rattle.node.specs.declared.Message.{Message}
-use Rattle.node.specs.Tests.{isRequest, isAck, isNak, isNotice}
+use Rattle.node.specs.Tests.{isRequest, isAck, isAnswer, isNotice, seqFits, numberFits}
 use Rattle.node.specs.Shape.{declaredOf, capacity, nodeFits, messageFits}
 
 -- a node's number is its place among the nodes; messages stand in the order posted
@@ -52,10 +48,6 @@ abbrev pub rightAt : State → ℕ → Link
 rightAt s u = nodeAt s u .right
 
 -- ---- whom a message concerns
--- "answers SetRAck(number) and SetRNak"
-abbrev pub isAnswer : Kind → Bool
-isAnswer kind = isAck kind || isNak kind
-
 abbrev pub isAckTo : ℕ → Message → Bool
 isAckTo u m = isAck (m .kind) && eqb (m .to) u
 
@@ -104,16 +96,6 @@ wellFormed s =
     && every (messageFits (length (s .nodes))) (s .messages))
 
 -- ---- "numbers are at most 65,535": what the fields of nodes and messages can hold
-abbrev pub seqFits : Seq → Bool
-seqFits Unset = true
-seqFits (Is n) = isSeq n
-
-abbrev pub numberFits : Kind → Bool
-numberFits (SetR new expected number) = isSeq number
-numberFits (SetRAck number) = isSeq number
-numberFits SetRNak = true
-numberFits (SetL left number) = isSeq number
-
 unfoldable pub numbersFit : State → Bool
 numbersFit s =
     everyBelow (length (s .nodes)) (λ u. isSeq (nodeAt s u .lseq) && seqFits (nodeAt s u .rseq))

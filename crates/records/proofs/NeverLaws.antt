@@ -22,12 +22,12 @@ use Rattle.protocol.specs.Calls.{refused}
 use Rattle.protocol.specs.History.{history}
 use Rattle.protocol.proofs.Facts.{formed}
 use Rattle.protocol.proofs.Refusals.{six, calls-never-31, owner-never-six}
+use Rattle.protocol.proofs.Drains.{drain-is}
 use Rattle.protocol.proofs.Owners.{always-found}
 use Rattle.protocol.proofs.Theorem.{ring}
 use Rattle.script.specs.declared.Record.{Record}
 use Rattle.script.specs.declared.Record.the-variants.{Call, Declare, Owner, Drain}
 use Rattle.records.specs.Performance.{unread, fieldRules, valueOf, performing, performOf}
-use Rattle.records.proofs.RecordLaws.{drain-is}
 
 -- ---- the fields give 3, 4 and 5
 serial-gives : {n : ℕ} → eqb 3 n ≡ false → eqb 4 n ≡ false → (serial : Serial) → Never n (unread (coded serial))

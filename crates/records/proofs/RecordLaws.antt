@@ -21,10 +21,10 @@ use Rattle.protocol.specs.declared.Call.the-variants.{Order, Deliver}
 use Rattle.protocol.specs.declared.Reply.{Reply}
 use Rattle.protocol.specs.State.{State, wellFormed}
 use Rattle.protocol.specs.Calls.{refused, applyOf}
-use Rattle.protocol.specs.Drain.{places, deliverAll, drained, drainOf}
+use Rattle.protocol.specs.Drain.{places, deliverAll, drainOf}
 use Rattle.protocol.proofs.Facts.{formed}
 use Rattle.protocol.proofs.Lively.{steady}
-use Rattle.protocol.proofs.Drains.{drains}
+use Rattle.protocol.proofs.Drains.{drain-is, drains}
 use Rattle.protocol.proofs.Posted.{few-posts, few-posts-of-all, refused-same as call-refused-same, drain-refused-same}
 use Rattle.network.specs.declared.Network.{Network}
 use Rattle.network.specs.Arrays.{live, wellFormed as arraysAreWellFormed}
@@ -40,10 +40,6 @@ use Rattle.records.specs.InArrays.{performOf as performOnArrays}
 deliveries-kept : (s : State) → T (wellFormed s) → (places : List ℕ) → T (wellFormed (deliverAll s places))
 deliveries-kept s w [] = w
 deliveries-kept s w (place ∷ places) = deliveries-kept (applyOf s (Deliver place) .state) (steady s w .kept (Deliver place)) places
-
-pub drain-is : (s : State) (budget : ℕ) → T (wellFormed s) → drainOf s budget ≡ drained s (places budget s)
-unfolding drainOf
-drain-is s budget w = rw (is-true (wellFormed s) w)
 
 module _ (s : State) (w : T (wellFormed s)) where
   performing-kept : (asked : Record) → T (wellFormed (performing s asked .state))

@@ -1,9 +1,8 @@
 -- What a script does to the network, as a list of calls: after each of its records the network is the one that these calls make, so all that
--- is claimed of any list of calls holds of it, and the messages posted are theirs. Definitions only.
+-- is claimed of any list of calls holds of it, and the messages posted are theirs; and what its printout says. Definitions only.
 use Prim.Native.Nat.{ℕ, zero, suc}
 use mathlib.Core.Path.{_≡_}
-use mathlib.Core.List.{List, [], _∷_, _++_, map}
-use mathlib.Core.Option.{Option, none, some}
+use mathlib.Core.List.{List, [], _∷_, _++_, map, List·Memᴰ}
 use Rattle.refusal.specs.Code.{plain}
 use Rattle.refusal.specs.Rules.{Coded, no}
 use Rattle.serial.specs.declared.Serial.the-variants.{Value, BadDigit, TooLarge}
@@ -14,10 +13,12 @@ use Rattle.protocol.specs.declared.Reply.{Reply}
 use Rattle.protocol.specs.State.{State, empty}
 use Rattle.protocol.specs.History.{history, posted}
 use Rattle.protocol.specs.Claim.{Sound}
+use Rattle.protocol.specs.Questions.{ownerOf}
 use Rattle.protocol.specs.Drain.{places}
 use Rattle.script.specs.declared.Record.{Record}
 use Rattle.script.specs.declared.Record.the-variants.{Call as CallRecord, Declare as DeclareRecord, Owner as OwnerRecord, Drain as DrainRecord}
 use Rattle.script.specs.Script.{Read, end, stop, next, readAt}
+use Rattle.printout.specs.Lines.{heading, lineOf}
 use Rattle.records.specs.Performance.{performOf}
 use Rattle.runner.specs.Run.{after}
 
@@ -40,11 +41,21 @@ abbrev pub scriptCalls : List ℕ → ℕ → List Call
 scriptCalls script zero = []
 scriptCalls script (suc k) = scriptCalls script k ++ callsRead (after script k .state) (readAt script (after script k .at))
 
--- what the next line says, by what is read at the cursor; at the end there is no line
-abbrev pub saidNext : State → Read → Option (Coded Reply)
-saidNext s end = none
-saidNext s (stop r) = some (no r)
-saidNext s (next asked c) = some (performOf s asked .said)
+-- the answer to what is read at the cursor: at the end there is none
+abbrev pub answerTo : State → Read → List (Coded Reply)
+answerTo s end = []
+answerTo s (stop r) = no r ∷ []
+answerTo s (next asked c) = performOf s asked .said ∷ []
+
+-- the answers to the first k records of a script
+abbrev pub answersOf : List ℕ → ℕ → List (Coded Reply)
+answersOf script zero = []
+answersOf script (suc k) = answersOf script k ++ answerTo (after script k .state) (readAt script (after script k .at))
+
+-- their lines, numbered from an ordinal on
+abbrev pub lines : ℕ → List (Coded Reply) → List ℕ
+lines ordinal [] = []
+lines ordinal (said ∷ rest) = lineOf ordinal said ++ lines (suc ordinal) rest
 
 -- what holds after k records
 pub record Made (script : List ℕ) (k : ℕ) : Type 0 where
@@ -53,10 +64,13 @@ pub record Made (script : List ℕ) (k : ℕ) : Type 0 where
   pub posts : after script k .posted ≡ posted empty (scriptCalls script k)
   -- the ring, as of any list of calls
   pub sound : Sound (history (scriptCalls script k))
-  -- no line says 6: every network of a script is well formed
-  pub never-6 : ¬ (saidNext (after script k .state) (readAt script (after script k .at)) ≡ some (no (plain 6)))
-  -- nor 31, "met only on a floor that no script makes"
-  pub never-31 : ¬ (saidNext (after script k .state) (readAt script (after script k .at)) ≡ some (no (plain 31)))
+  -- the printout so far is the heading and a line for each answer
+  pub printed : after script k .text ≡ heading ++ lines 1 (answersOf script k)
+  -- none of them is 6: every network of a script is well formed
+  pub never-6 : ¬ List·Memᴰ (no (plain 6)) (answersOf script k)
+  -- nor 31, "met only on a floor that no script makes", whoever is asked for
+  pub never-31 : ¬ List·Memᴰ (no (plain 31)) (answersOf script k)
+  pub found : (start serial : ℕ) → ¬ (ownerOf (after script k .state) start serial ≡ no (plain 31))
 
 -- for every script, whatever its bytes, and after each of its records
 abbrev pub ScriptClaim : Type 0

@@ -1,6 +1,6 @@
--- Laws of serials: what an answer says fixes the answer, and a serial that is read is in range. Assumes nothing.
+-- Laws of serials: what an answer says fixes the answer, and is 3 or 4 by its rule; a serial that is read is in range. Assumes nothing.
 use mathlib.Core.Path.{_≡_, refl, sym, ap, _∙_}
-use mathlib.Core.Bool.{Bool, true, false, cond}
+use mathlib.Core.Bool.{Bool, true, false, not, cond}
 use mathlib.Core.List.{List, [], _∷_, reverse}
 use Prim.Native.Nat.{ℕ, _*_, _^_, _<_, _≤_}
 use native.Mathlib.Omega.{arith}
@@ -10,7 +10,7 @@ use lib.Dec.{leb, eqb}
 use borrow.Author.Tests.{leb-true, le-leb}
 use Rattle.truth.proofs.Laws.{both}
 use Rattle.refusal.specs.Code.{plain}
-use Rattle.refusal.specs.Rules.{Coded, done, no}
+use Rattle.refusal.specs.Rules.{Coded, done, no, _when_, ruled}
 use Rattle.serial.specs.declared.Serial.{Serial}
 use Rattle.serial.specs.declared.Serial.the-variants.{Value, BadDigit, TooLarge}
 use Rattle.serial.specs.Serial.{inRange, coded, handedOf, positional, binaryOf, digits, allDecimal, packedOf}
@@ -30,6 +30,20 @@ coded-injective a b e = sym (named-coded a) ∙ ap named e ∙ named-coded b
     named-coded (Value n) = refl
     named-coded BadDigit = refl
     named-coded TooLarge = refl
+
+-- ---- what is read says the paper's numbers, by its rule
+by-rule : (n v : ℕ) (ok : Bool) (wrong : Serial) → coded wrong ≡ no (plain n) → coded (cond ok (Value v) wrong) ≡ ruled ((n when not ok) ∷ []) no (done v)
+by-rule n v true wrong e = refl
+by-rule n v false wrong e = e
+
+pub handed-says : (v : ℕ) → coded (handedOf v) ≡ ruled ((4 when not (inRange v)) ∷ []) no (done v)
+handed-says v = by-rule 4 v (inRange v) TooLarge refl
+
+pub binary-says : (bytes : List ℕ) → coded (binaryOf bytes) ≡ ruled ((4 when not (inRange (positional 256 (reverse bytes)))) ∷ []) no (done (positional 256 (reverse bytes)))
+binary-says bytes = handed-says (positional 256 (reverse bytes))
+
+pub packed-says : (bytes : List ℕ) → coded (packedOf bytes) ≡ ruled ((3 when not (allDecimal (digits bytes))) ∷ []) no (done (positional 10 (digits bytes)))
+packed-says bytes = by-rule 3 (positional 10 (digits bytes)) (allDecimal (digits bytes)) BadDigit refl
 
 -- k decimal digits are below 10 ^ k
 pub decimal-bound : (ds : List ℕ) → allDecimal ds ≡ true → positional 10 ds < 10 ^ length ds

@@ -22,7 +22,7 @@ use Rattle.protocol.specs.declared.Call.the-variants.{Order}
 use Rattle.protocol.specs.State.{nodeAt, noticeWaits}
 use Rattle.protocol.specs.Calls.{commit, peerAt, joinRules}
 use Rattle.network.specs.Arrays.{vacantNode, live, wellFormed}
-use Rattle.calls.specs.Computed.{afterStep, roomRules}
+use Rattle.calls.specs.Computed.{afterStep, roomTests}
 use Rattle.network.proofs.Lengths.{lengths}
 use Rattle.network.proofs.LiveLaws.{node-live}
 use Rattle.calls.proofs.CallLaws.{join-undeclared, join-says-here, rest-cleared, refuses-by, committed-by}
@@ -61,7 +61,7 @@ step c h =
 abbrev rest : tie.After-join → List Rule
 rest c =
     let args = declared c .before .args in
-    (25 when noticeWaits (live (args .t1)) (args .number)) ∷ roomRules (args .t1 .waiting) (effect (c .join .result) .posts)
+    (25 when noticeWaits (live (args .t1)) (args .number)) ∷ roomTests (args .t1 .waiting) (effect (c .join .result) .posts)
 
 abbrev joined : tie.After-after-step → tie.After-join
 joined c = c .before .before .before .before .before

@@ -14,7 +14,7 @@ use Rattle.protocol.specs.declared.Call.the-variants.{Order}
 use Rattle.protocol.specs.State.{nodeAt}
 use Rattle.protocol.specs.Calls.{commit, leaveRules}
 use Rattle.network.specs.Arrays.{vacantNode, live, wellFormed}
-use Rattle.calls.specs.Computed.{afterStep, roomRules}
+use Rattle.calls.specs.Computed.{afterStep, roomTests}
 use Rattle.network.proofs.Lengths.{lengths}
 use Rattle.network.proofs.LiveLaws.{node-live}
 use Rattle.calls.proofs.CallLaws.{leave-undeclared, leave-says-here, rest-cleared, room-cleared-by, refuses-by, committed-by}
@@ -30,7 +30,7 @@ step c h =
 
 -- what the check says: as it was put together, and as the rules have it
 put : (c : tie.After-after-step) → let left = c .before .before in let e = effect (left .leave .result) in
-    checked (c .after-step .result) ≡ afterStep (e .said) (first (roomRules (left .before .before .before .args .t1 .waiting) (e .posts)))
+    checked (c .after-step .result) ≡ afterStep (e .said) (first (roomTests (left .before .before .before .args .t1 .waiting) (e .posts)))
 put c = c .after-step .ensures ∙ ap (afterStep (effect (c .before .before .leave .result) .said)) (c .before .check-room .ensures)
 
 says : (c : tie.After-after-step) → let start = c .before .before .before .before .before in wellFormed (start .args .t1) ≡ true → checked (c .after-step .result) ≡ first (leaveRules (live (start .args .t1)) (start .args .number))
@@ -43,7 +43,7 @@ room : (c : tie.After-enum-told) → let left = c .before .before .before .befor
 room c =
     let left = c .before .before .before .before in
     let e = effect (left .leave .result) in
-    room-cleared-by (left .before .before .before .args .t1 .waiting) (e .posts) (rest-cleared (e .said) (roomRules (left .before .before .before .args .t1 .waiting) (e .posts)) (put (c .before .before)) (c .enum-told .given .1))
+    room-cleared-by (left .before .before .before .args .t1 .waiting) (e .posts) (rest-cleared (e .said) (roomTests (left .before .before .before .args .t1 .waiting) (e .posts)) (put (c .before .before)) (c .enum-told .given .1))
 
 returns : tie.Need-returns
 returns c h =
