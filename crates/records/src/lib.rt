@@ -10,7 +10,7 @@ ghost use Rattle.protocol.specs.Answer.{answered};
 ghost use Rattle.protocol.specs.State.{State};
 ghost use Rattle.network.specs.Arrays.{wellFormed};
 ghost use Rattle.calls.specs.Outcomes.{called, counted};
-ghost use Rattle.records.specs.Performance.{unread, fieldRules, valueOf};
+ghost use Rattle.records.specs.Performance.{unread, fieldRules, valueOf, callOf};
 ghost use Rattle.records.specs.InArrays.{performOf};
 use calls::Called;
 use calls::Report;
@@ -54,6 +54,21 @@ fn value_of(serial: Serial) -> u32
     }
 }
 
+// The call of a record that makes one; of any other it is not asked for.
+fn call_of(asked: Record) -> Call
+    ensures { λ r. ⌜ r ≡ callOf asked ⌝ }
+{
+    match asked {
+        Record::Call(call) => call,
+        Record::Declare(serial) => Call::Order(Order::Declare(value_of(serial))),
+        Record::Owner {
+            start: _,
+            serial: _,
+        } => Call::Deliver(0),
+        Record::Drain(_) => Call::Deliver(0),
+    }
+}
+
 // The refusals of a record's fields, on a network of so many nodes.
 fn check_fields(asked: Record, count: u8) -> Check
     ensures { λ r. ⌜ ((s : State) → length (s .nodes) ≡ count → checked r ≡ first (fieldRules s asked)) ⌝ }
@@ -73,13 +88,11 @@ fn check_fields(asked: Record, count: u8) -> Check
 pub fn perform_formed(network: Network, asked: Record) -> Called
     ensures { λ r. ⌜ (wellFormed network ≡ true → called r ≡ counted (performOf network asked)) ⌝ }
 {
+    let call = call_of(asked);
     match check_fields(asked, network.count) {
         Check::Refuse(refusal) => told(network, Answer::Refused(refusal)),
         Check::Clear => match asked {
-            Record::Call(call) => calls::apply_formed(network, call),
-            Record::Declare(serial) => {
-                calls::apply_formed(network, Call::Order(Order::Declare(value_of(serial))))
-            }
+            Record::Call(_) | Record::Declare(_) => calls::apply_formed(network, call),
             Record::Owner { start, serial } => {
                 told(
                     network,

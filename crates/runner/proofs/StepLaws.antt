@@ -14,7 +14,6 @@ use Rattle.text.specs.Text.{pasted, placeAfter}
 use Rattle.text.proofs.Laws.{place-after, take-pasted}
 use Rattle.network.specs.declared.Network.{Network}
 use Rattle.network.specs.Arrays.{live, wellFormed}
-use Rattle.network.proofs.Lengths.{Lengths}
 use Rattle.network.proofs.ArrayLaws.{live-held}
 use Rattle.script.specs.declared.Record.{Record}
 use Rattle.script.specs.Script.{end, stop, next, readAt}
@@ -25,7 +24,7 @@ use Rattle.runner.specs.Run.{Progress as Reached, stepOf}
 use Rattle.calls.specs.Outcomes.{Counted, counted}
 use Rattle.records.specs.InArrays.{performOf}
 use Rattle.runner.specs.Reached.{reached}
-use Rattle.records.proofs.RecordLaws.{on-lists, refused-unchanged}
+use Rattle.records.proofs.RecordLaws.{on-lists}
 
 -- ---- what a step starts from and ends in, and how far that is; what the contract of a step asks, and what it ensures
 pub record State : Type 0 where
@@ -57,16 +56,6 @@ module _ (script buffer : List ℕ) (n : Network) (p : Progress) where
         → reached (r .network) (record { at = c; ordinal = p .ordinal + 1; posted = p .posted + r .posted; used = used }) after ≡ stepOf script (reached n p buffer)
     step-performed asked c r sound read performed printed =
         rw (read, printed, on-lists n sound asked r performed, live-held (performOnLists (live n) asked .state))
-
-    -- a refused record leaves the very network, and posts nothing
-    pub step-refused : (asked : Record) (c : ℕ) (r : Counted) → Lengths n → wellFormed n ≡ true → readAt script (p .at) ≡ next asked c → r ≡ counted (performOf n asked)
-        → (reason : Reason) → r .said ≡ no reason → take used after ≡ take (p .used) buffer ++ lineOf (p .ordinal + 1) (r .said)
-        → reached n (record { at = c; ordinal = p .ordinal + 1; posted = p .posted; used = used }) after ≡ stepOf script (reached n p buffer)
-    step-refused asked c r l sound read performed reason refused printed =
-        let (same, nothing) = refused-unchanged n sound asked r performed l reason refused in
-        let none-more : p .posted ≡ p .posted + r .posted = omega (arith, nothing) in
-        (λ i. reached (sym same i) (record { at = c; ordinal = p .ordinal + 1; posted = none-more i; used = used }) after)
-        ∙ step-performed asked c r sound read performed printed
 
 -- ---- a line that is put after what has been printed
 pub line-put : (text after piece line : List ℕ) (at r : ℕ) → (r ≡ placeAfter text at piece) × (after ≡ pasted text at piece) → piece ≡ line

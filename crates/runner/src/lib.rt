@@ -4,6 +4,8 @@
 ghost use Prim.Native.Nat.{_+_, _≤_, _<_};
 ghost use Rattle.io.specs.Counts.{Counts};
 ghost use Rattle.network.specs.Arrays.{wellFormed};
+ghost use Rattle.refusal.specs.Code.{Reason};
+ghost use Rattle.refusal.specs.Rules.{no};
 ghost use Rattle.protocol.specs.Answer.{answered};
 ghost use Rattle.printout.specs.Lines.{heading, lineOf, lastLine};
 ghost use Rattle.runner.specs.Reached.{reached};
@@ -12,6 +14,7 @@ ghost use lib.ListN.{length, take, replicate};
 ghost use mathlib.Core.Bool.{true};
 ghost use mathlib.Core.List.{_++_};
 ghost use mathlib.Core.Path.{_≡_};
+use calls::Report;
 use network::Network;
 use protocol::Answer;
 use refusal::Refusal;
@@ -54,6 +57,33 @@ fn put_last(text: &mut [u8], at: usize, waiting: u8, posted: u32) -> usize
     text::append(text, at, &line[..n])
 }
 
+// A record is left with its line printed and the cursor past it; at once where it is refused, since it then has posted nothing. The network stands
+// apart from this: a second place that hands one back costs two more copies of it.
+fn leave_record(text: &mut [u8; 1048576], p: Progress, after: usize, report: Report) -> Progress
+    requires { ⌜ (p .used + 40 ≤ 1_048_576) × (p .ordinal < 100_000) × (p .posted < 100_000_000) × (report .posted ≤ 384) × ((r : Reason) → answered (report .answer) ≡ no r → report .posted ≡ 0) ⌝ }
+    ensures { λ r. ⌜ (r .at ≡ after) × (r .ordinal ≡ p .ordinal + 1) × (r .posted ≡ p .posted + report .posted)
+        × (take (r .used) (now (text .exit)) ≡ take (p .used) (now (text .entry)) ++ lineOf (p .ordinal + 1) (answered (report .answer))) × (r .used ≤ p .used + 40) ⌝ }
+{
+    let ordinal = p.ordinal + 1;
+    let answer = report.answer;
+    let Answer::Done(reply) = answer else {
+        let used = put_line(text, p.used, ordinal, answer);
+        return Progress {
+            at: after,
+            ordinal,
+            posted: p.posted,
+            used,
+        };
+    };
+    let used = put_line(text, p.used, ordinal, Answer::Done(reply));
+    Progress {
+        at: after,
+        ordinal,
+        posted: p.posted + report.posted,
+        used,
+    }
+}
+
 // One more record, by value: its line is printed, and the cursor is past it. Where the reading stops, the cursor goes to the end.
 fn turn(network: Network, script: &[u8], text: &mut [u8; 1048576], p: Progress) -> Turned
     requires { ⌜ (wellFormed network ≡ true) × (p .used + 40 ≤ 1_048_576) × (p .ordinal < 100_000) × (p .posted < 100_000_000) ⌝ }
@@ -79,27 +109,9 @@ fn turn(network: Network, script: &[u8], text: &mut [u8; 1048576], p: Progress) 
         }
         Reading::Next { record, after } => {
             let called = records::perform_formed(network, record);
-            let report = called.report;
-            let answer = report.answer;
-            // A refusal leaves the record at once: it has changed nothing and posted nothing.
-            let Answer::Done(reply) = answer else {
-                let used = put_line(text, p.used, ordinal, answer);
-                let progress = Progress {
-                    at: after,
-                    ordinal,
-                    posted: p.posted,
-                    used,
-                };
-                return Turned { network, progress };
-            };
             let next = called.network;
-            let used = put_line(text, p.used, ordinal, Answer::Done(reply));
-            let progress = Progress {
-                at: after,
-                ordinal,
-                posted: p.posted + report.posted,
-                used,
-            };
+            let report = called.report;
+            let progress = leave_record(text, p, after, report);
             Turned {
                 network: next,
                 progress,

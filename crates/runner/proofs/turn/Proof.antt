@@ -1,19 +1,16 @@
--- `runner::turn` meets its contract: each of the four ways of a step is the definition's. Assumes nothing.
+-- `runner::turn` meets its contract: each of the three ways of a step is the definition's. Assumes nothing.
 use mathlib.Core.Path.{_≡_, sym, ap, _∙_}
-use mathlib.Core.List.{_++_}
-use Prim.Native.Nat.{_+_, _≤_}
+use Prim.Native.Nat.{_≤_}
 use native.Mathlib.Omega.{arith}
 use borrow.Author.Needs.{needs}
-use lib.ListN.{take}
-use Rattle.protocol.specs.Answer.{answered}
 use Rattle.network.proofs.Lengths.{lengths}
 use Rattle.calls.specs.Outcomes.{Counted, called, counted}
 use Rattle.script.specs.declared.Record.{Record}
 use Rattle.script.specs.Script.{reading}
-use Rattle.printout.specs.Lines.{lineOf}
 use Rattle.records.specs.InArrays.{performOf}
-use Rattle.records.proofs.RecordLaws.{stays-well-formed, few-posted}
-use Rattle.runner.proofs.StepLaws.{step-ended, step-stopped, step-performed, step-refused}
+use Rattle.records.proofs.RecordLaws.{stays-well-formed, few-posted, refused-unchanged}
+use Rattle.runner.specs.Reached.{reached}
+use Rattle.runner.proofs.StepLaws.{step-ended, step-stopped, step-performed}
 use Rattle.runner.proofs.turn.Statement.{statement}
 use Rattle.runner.proofs.turn.Tie as tie
 
@@ -36,31 +33,27 @@ performed c = c .perform-formed .ensures (first c .pre .0)
 few : (c : tie.After-perform-formed) → came c .posted ≤ 384
 few c = few-posted (first c .args .network) (first c .pre .0) (asked c) (came c) (performed c)
 
-add-t32 : tie.Need-add-t32
-add-t32 c = omega (arith, few (c .before .before .before .before .before .before .before .before .before))
-
--- it was refused
-returns : tie.Need-returns
-returns c =
-    let done = c .before .before .before .before .before in
+leave-record-requires : tie.Need-leave-record-requires
+leave-record-requires c κs =
+    let done = c .before .before .before in
     let s = first done in (
-      step-refused _ _ (s .args .network) (s .args .p) (c .put-line2 .last .0) (c .put-line2 .result) (asked done) _ (came done) (lengths _ _ (s .good .0)) (s .pre .0)
-          (sym (done .before .before .before .before .read .ensures) ∙ ap reading (done .before .before .«record» .given .1)) (performed done) _
-          (ap answered (c .before .before .enum-told2 .given .1)) (c .put-line2 .ensures .0),
-      s .pre .0,
-      c .put-line2 .ensures .1,
+      s .pre .1,
+      s .pre .2,
+      s .pre .3,
+      few done,
+      λ r e. refused-unchanged (s .args .network) (s .pre .0) (asked done) (came done) (performed done) (lengths _ _ (s .good .0)) r e .1,
     )
 
 -- nothing more is to be read
-returns-2 : tie.Need-returns-2
-returns-2 c =
+returns : tie.Need-returns
+returns c =
     let read = c .before .before in
     let s = start read in
     (step-ended _ _ (s .args .network) (s .args .p) (sym (read .read .ensures) ∙ ap reading (c .enum-told .given .1)), s .pre .0, omega arith)
 
 -- the reading stops
-returns-3 : tie.Need-returns-3
-returns-3 c =
+returns-2 : tie.Need-returns-2
+returns-2 c =
     let stopped = c .before .before .before in
     let read = stopped .before .before in
     let s = start read in (
@@ -70,19 +63,18 @@ returns-3 c =
       c .put-line .ensures .1,
     )
 
--- it was not refused
-returns-4 : tie.Need-returns-4
-returns-4 c =
-    let printed = c .before .before in
-    let replied = printed .before .before .before .before in
-    let done = replied .before .before .before in
+-- a record
+returns-3 : tie.Need-returns-3
+returns-3 c =
+    let done = c .before .before .before .before in
     let s = first done in
-    let line = printed .put-line3 .ensures .0
-    ∙ ap (λ a. take (s .args .p .used) (s .args .text .now) ++ lineOf (s .args .p .ordinal + 1) (answered a)) (sym (replied .answer .given .1)) in (
-      step-performed _ _ (s .args .network) (s .args .p) (printed .put-line3 .last .0) (printed .put-line3 .result) (asked done) _ (came done) (s .pre .0)
+    let left = c .leave-record .result in
+    let (at, ordinal, posted, line, room) = c .leave-record .ensures in (
+      (λ i. reached (came done .network) (record { at = at i; ordinal = ordinal i; posted = posted i; used = left .used }) (c .leave-record .last .0))
+          ∙ step-performed _ _ (s .args .network) (s .args .p) (c .leave-record .last .0) (left .used) (asked done) _ (came done) (s .pre .0)
           (sym (done .before .before .before .before .read .ensures) ∙ ap reading (done .before .before .«record» .given .1)) (performed done) line,
       stays-well-formed (s .args .network) (s .pre .0) (asked done) (came done) (performed done),
-      printed .put-line3 .ensures .1,
+      room,
     )
 
 pub turn-spec : {M : Type 1} → statement M
@@ -96,12 +88,7 @@ turn-spec =
     (λ c κs. search needs)
     (λ c. search needs)
     (λ c κs. search needs)
-    (λ c. search needs)
-    (λ c. search needs)
-    (λ c κs. search needs)
+    leave-record-requires
     returns
-    (λ c κs. search needs)
-    add-t32
     returns-2
-    returns-3
-    returns-4)
+    returns-3)
