@@ -1,2 +1,3 @@
 pub mod Performance
 pub mod InArrays
+pub mod Computed

@@ -6,8 +6,7 @@ use mathlib.Core.List.{List, [], _∷_}
 use Rattle.refusal.specs.Rules.{Coded, done, no, Rule, rule, _when_, ruled}
 use Rattle.serial.specs.Serial.{coded}
 use Rattle.protocol.specs.declared.Order.the-variants.{Declare as DeclareOrder}
-use Rattle.protocol.specs.declared.Call.{Call as AnyCall}
-use Rattle.protocol.specs.declared.Call.the-variants.{Order, Deliver}
+use Rattle.protocol.specs.declared.Call.the-variants.{Order}
 use Rattle.protocol.specs.declared.Reply.{Reply}
 use Rattle.protocol.specs.State.{State, declared, wellFormed}
 use Rattle.protocol.specs.Calls.{Result, refused, applyOf}
@@ -39,16 +38,9 @@ valueOf (no r) = 0
 abbrev pub saying : State → Coded Reply → Result
 saying s said = record { state = s; posts = []; said = said }
 
--- the call of a record that makes one; of any other it is not asked for
-abbrev pub callOf : Record → AnyCall
-callOf (Call call) = call
-callOf (Declare serial) = Order (DeclareOrder (valueOf (coded serial)))
-callOf (Owner start serial) = Deliver 0
-callOf (Drain budget) = Deliver 0
-
 abbrev pub performing : State → Record → Result
-performing s (Call call) = applyOf s (callOf (Call call))
-performing s (Declare serial) = applyOf s (callOf (Declare serial))
+performing s (Call call) = applyOf s call
+performing s (Declare serial) = applyOf s (Order (DeclareOrder (valueOf (coded serial))))
 performing s (Owner start serial) = saying s (ownerOf s start (valueOf (coded serial)))
 performing s (Drain budget) = drainOf s budget
 

@@ -19,7 +19,8 @@ use Rattle.questions.specs.Answers.{ownerOf}
 use Rattle.script.specs.declared.Record.{Record}
 use Rattle.script.specs.declared.Record.the-variants.{Call, Declare, Owner, Drain}
 use Rattle.script.proofs.Record.{the-type}
-use Rattle.records.specs.Performance.{fieldRules, callOf, performing}
+use Rattle.records.specs.Performance.{fieldRules, performing}
+use Rattle.records.specs.Computed.{callOf}
 use Rattle.records.specs.InArrays.{performOf}
 use Rattle.records.proofs.PerformLaws.{call-formed, drain-formed, field-refused, fields-clear, asked-here}
 use Rattle.records.proofs.perform_formed.Statement.{statement}
