@@ -1,4 +1,4 @@
-// The three example sheets of the folder `examples`, one record to a line. There each record has a comment that says what it does, and
+// Three of the example sheets of the folder `examples`, one record to a line. There each record has a comment that says what it does, and
 // beside each sheet stands its printout, which is the same.
 use crate::show;
 
