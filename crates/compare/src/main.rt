@@ -40,7 +40,7 @@ fn difference(ours: &Page, length: usize, theirs: &Page, their_length: usize) ->
 
 fn theirs_of(script: &[u8], length: usize, page: &mut Page) -> usize {
     if length <= script.len() {
-        runner::printout(&script[0..length], page)
+        engine::printout(&script[0..length], page)
     } else {
         0
     }

@@ -1,7 +1,7 @@
 -- What one node does with an order or a message: "The actions (004 Fig. 1)" of paper 01, in its order, each with its refusals before
 -- it. Every definition fixes the whole node, every message and the outcome. Definitions only.
 use Prim.Native.Nat.{ℕ}
-use mathlib.Core.Bool.{Bool, not, _&&_, _||_, cond}
+use mathlib.Core.Bool.{Bool, false, not, _&&_, _||_, cond}
 use mathlib.Core.List.{List, [], _∷_}
 use lib.Dec.{eqb}
 use Rattle.refusal.specs.Code.{Reason, reason}
@@ -148,6 +148,13 @@ leaveOf me u = ruled (leaveRules me u) (refused u) (leaving me u)
 -- "Granted when p is in, its right link equals expected, and, where new = v, its right number is below 65,535."
 unfoldable pub grants : Node → ℕ → ℕ → ℕ → Bool
 grants p v new expected = isIn (p .status) && (linksTo (p .right) expected && (not (eqb new v) || hasNext (seqOf (p .rseq))))
+
+-- "a SetR that would be granted"
+abbrev pub wouldGrant : Node → ℕ → Kind → Bool
+wouldGrant p v (SetR new expected number) = grants p v new expected
+wouldGrant p v (SetRAck number) = false
+wouldGrant p v SetRNak = false
+wouldGrant p v (SetL left number) = false
 
 -- "If new = v (a join) post SetL(v, right number + 1) to the old right link; else post SetL(p, number) to new."
 abbrev pub notice : ℕ → Node → ℕ → ℕ → Number → Message

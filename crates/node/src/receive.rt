@@ -27,7 +27,8 @@ fn check(node: Node, me: u8, message: Message) -> Check
 }
 
 impl Node {
-    fn act(self, me: u8, sender: u8, kind: Kind) -> Step
+    // What a node does with a message, by its kind: the action alone, with no test of node or message.
+    pub fn act(self, me: u8, sender: u8, kind: Kind) -> Step
         ensures { λ r. ⌜ effect r ≡ actOf me self sender kind ⌝ }
     {
         let status = self.status;

@@ -1,6 +1,6 @@
 // SetR: a node grants or denies a request to change its right link.
 ghost use mathlib.Core.Path.{_≡_};
-ghost use Rattle.node.specs.Actions.{effect, grants, granting, onSetR};
+ghost use Rattle.node.specs.Actions.{effect, grants, wouldGrant, granting, onSetR};
 use crate::Kind;
 use crate::Link;
 use crate::Message;
@@ -21,6 +21,24 @@ fn grants_request(node: Node, sender: u8, new: u8, expected: u8) -> bool
     let rseq = node.rseq;
     status.is_in()
         & (right.links_to(expected) & ((new != sender) | sequence::has_next(rseq.number())))
+}
+
+impl Node {
+    // Whether this message, from a sender, is a request that the node would grant.
+    pub fn would_grant(self, sender: u8, kind: Kind) -> bool
+        ensures { λ r. ⌜ r ≡ wouldGrant self sender kind ⌝ }
+    {
+        match kind {
+            Kind::SetR {
+                new,
+                expected,
+                number: _,
+            } => grants_request(self, sender, new, expected),
+            Kind::SetRAck { number: _ } => false,
+            Kind::SetRNak => false,
+            Kind::SetL { left: _, number: _ } => false,
+        }
+    }
 }
 
 fn grant(node: Node, notice: Message, ack: Message) -> Step

@@ -1,105 +1,130 @@
-// The lines of the printout. Each is made in a buffer that is long enough for every one of them, whatever its numbers.
+// The lines of the printout, each written straight into the text. Where forty bytes find no room nothing is written: no line has more,
+// whatever its numbers, so nothing is asked of the caller. A word is put with the space before it and the line end after it, as one constant.
 ghost use mathlib.Core.Path.{_≡_};
 ghost use Prim.Native.Nat.{_+_, _≤_};
-ghost use lib.ListN.{length, take};
-ghost use Rattle.io.specs.Counts.{Counts};
+ghost use lib.Dec.{ltb};
+ghost use lib.ListN.{length};
 ghost use Rattle.text.specs.Text.{Put};
 ghost use Rattle.refusal.specs.Code.{reason};
-ghost use Rattle.refusal.specs.Rules.{no};
-ghost use Rattle.protocol.specs.Answer.{answered};
-ghost use Rattle.printout.specs.Lines.{pair, outcomeWord, replyWords, words, lineOf, lastLine};
+ghost use Rattle.refusal.specs.Rules.{done, no};
+ghost use Rattle.protocol.specs.declared.Reply.the-variants.{Declared, Stepped, Owner, Ran};
+ghost use Rattle.printout.specs.Lines.{lineOf, lastLine, ending, Ended, Printed};
 use node::Outcome;
-use protocol::Answer;
 use protocol::Reply;
 use refusal::Refusal;
 
-// A word and a number, and then another word and another number.
-fn put_pair(line: &mut [u8; 40], at: usize, word: &[u8], n: u16, second: &[u8], m: u32) -> usize
-    requires { ⌜ (at ≤ 11) × (length (now word) + length (now second) ≤ 12) ⌝ }
-    ensures { λ r. ⌜ Put (now (line .entry)) at (pair (now (word .entry)) n (now (second .entry)) m) (now (line .exit)) r ⌝ }
-    ensures { λ _. ⌜ length (pair (now (word .entry)) n (now (second .entry)) m) ≤ 27 ⌝ }
-{
-    let at = text::append(line, at, word);
-    let at = text::append_decimal(line, at, n as u32);
-    let at = text::append(line, at, second);
-    text::append_decimal(line, at, m)
-}
-
-fn put_outcome(line: &mut [u8; 40], at: usize, outcome: Outcome) -> usize
-    ensures { λ r. ⌜ Put (now (line .entry)) at (outcomeWord outcome) (now (line .exit)) r ⌝ }
+fn put_outcome(text: &mut [u8], at: usize, outcome: Outcome) -> usize
+    ensures { λ r. ⌜ Put (now (text .entry)) at (ending (done (Stepped outcome))) (now (text .exit)) r ⌝ }
 {
     match outcome {
-        Outcome::Created => text::append(line, at, b"created"),
-        Outcome::Waiting => text::append(line, at, b"waiting"),
-        Outcome::LeftAlone => text::append(line, at, b"out"),
-        Outcome::Granted => text::append(line, at, b"granted"),
-        Outcome::Denied => text::append(line, at, b"denied"),
-        Outcome::Joined => text::append(line, at, b"joined"),
-        Outcome::Gone => text::append(line, at, b"gone"),
-        Outcome::JoinDenied => text::append(line, at, b"join-denied"),
-        Outcome::LeaveDenied => text::append(line, at, b"leave-denied"),
-        Outcome::LeftSet => text::append(line, at, b"left-set"),
-        Outcome::LeftOld => text::append(line, at, b"left-old"),
-        Outcome::Dropped => text::append(line, at, b"dropped"),
+        Outcome::Created => text::append(text, at, b" created\n"),
+        Outcome::Waiting => text::append(text, at, b" waiting\n"),
+        Outcome::LeftAlone => text::append(text, at, b" out\n"),
+        Outcome::Granted => text::append(text, at, b" granted\n"),
+        Outcome::Denied => text::append(text, at, b" denied\n"),
+        Outcome::Joined => text::append(text, at, b" joined\n"),
+        Outcome::Gone => text::append(text, at, b" gone\n"),
+        Outcome::JoinDenied => text::append(text, at, b" join-denied\n"),
+        Outcome::LeaveDenied => text::append(text, at, b" leave-denied\n"),
+        Outcome::LeftSet => text::append(text, at, b" left-set\n"),
+        Outcome::LeftOld => text::append(text, at, b" left-old\n"),
+        Outcome::Dropped => text::append(text, at, b" dropped\n"),
     }
 }
 
-fn put_reply(line: &mut [u8; 40], at: usize, reply: Reply) -> usize
-    requires { ⌜ at ≤ 11 ⌝ }
-    ensures { λ r. ⌜ Put (now (line .entry)) at (replyWords reply) (now (line .exit)) r ⌝ }
-    ensures { λ _. ⌜ length (replyWords reply) ≤ 27 ⌝ }
+fn put_bench(text: &mut [u8], at: usize, number: u8, key: u32) -> usize
+    requires { ⌜ at + 30 ≤ length (now text) ⌝ }
+    ensures { λ r. ⌜ Ended (now (text .entry)) at (done (Declared number key)) (now (text .exit)) r ⌝ }
+{
+    let at = text::append(text, at, b" bench ");
+    let at = text::append_decimal(text, at, number as u32);
+    let at = text::append(text, at, b" key ");
+    let at = text::append_decimal(text, at, key);
+    text::append(text, at, b"\n")
+}
+
+fn put_owner(text: &mut [u8], at: usize, node: u8, hops: u8) -> usize
+    requires { ⌜ at + 30 ≤ length (now text) ⌝ }
+    ensures { λ r. ⌜ Ended (now (text .entry)) at (done (Owner node hops)) (now (text .exit)) r ⌝ }
+{
+    let at = text::append(text, at, b" owner ");
+    let at = text::append_decimal(text, at, node as u32);
+    let at = text::append(text, at, b" hops ");
+    let at = text::append_decimal(text, at, hops as u32);
+    text::append(text, at, b"\n")
+}
+
+fn put_ran(text: &mut [u8], at: usize, made: u16, left: u8) -> usize
+    requires { ⌜ at + 30 ≤ length (now text) ⌝ }
+    ensures { λ r. ⌜ Ended (now (text .entry)) at (done (Ran made left)) (now (text .exit)) r ⌝ }
+{
+    let at = text::append(text, at, b" ran ");
+    let at = text::append_decimal(text, at, made as u32);
+    let at = text::append(text, at, b" left ");
+    let at = text::append_decimal(text, at, left as u32);
+    text::append(text, at, b"\n")
+}
+
+fn put_reply(text: &mut [u8], at: usize, reply: Reply) -> usize
+    requires { ⌜ at + 30 ≤ length (now text) ⌝ }
+    ensures { λ r. ⌜ Ended (now (text .entry)) at (done reply) (now (text .exit)) r ⌝ }
 {
     match reply {
-        Reply::Declared { number, key } => {
-            put_pair(line, at, b"bench ", number as u16, b" key ", key)
-        }
-        Reply::Stepped(outcome) => put_outcome(line, at, outcome),
-        Reply::Owner { node, hops } => {
-            put_pair(line, at, b"owner ", node as u16, b" hops ", hops as u32)
-        }
-        Reply::Ran { made, left } => { put_pair(line, at, b"ran ", made, b" left ", left as u32) }
-        Reply::Inserted { word: _, size: _ } => text::append(line, at, b""),
+        Reply::Declared { number, key } => put_bench(text, at, number, key),
+        Reply::Stepped(outcome) => put_outcome(text, at, outcome),
+        Reply::Owner { node, hops } => put_owner(text, at, node, hops),
+        Reply::Ran { made, left } => put_ran(text, at, made, left),
+        Reply::Inserted { word: _, size: _ } => text::append(text, at, b" \n"),
     }
 }
 
-fn put_refusal(line: &mut [u8; 40], at: usize, refusal: Refusal) -> usize
-    requires { ⌜ at ≤ 11 ⌝ }
-    ensures { λ r. ⌜ Put (now (line .entry)) at (words (no (reason refusal))) (now (line .exit)) r ⌝ }
-    ensures { λ _. ⌜ length (words (no (reason refusal))) ≤ 27 ⌝ }
+// Whether forty bytes find no room in a text of so many bytes, from place `at` on.
+fn is_full(size: usize, at: usize) -> bool
+    ensures { λ r. ⌜ r ≡ ltb size (at + 40) ⌝ }
 {
-    let at = text::append(line, at, b"no ");
-    text::append_decimal(line, at, refusal.number() as u32)
-}
-
-fn put_answer(line: &mut [u8; 40], at: usize, answer: Answer) -> usize
-    requires { ⌜ at ≤ 11 ⌝ }
-    ensures { λ r. ⌜ Put (now (line .entry)) at (words (answered answer)) (now (line .exit)) r ⌝ }
-    ensures { λ _. ⌜ length (words (answered answer)) ≤ 27 ⌝ }
-{
-    match answer {
-        Answer::Done(reply) => put_reply(line, at, reply),
-        Answer::Refused(refusal) => put_refusal(line, at, refusal),
+    if size < 40 {
+        true
+    } else if size - 40 < at {
+        true
+    } else {
+        false
     }
 }
 
-// The line of a record, and how many bytes it has; what stands past it is left open.
-pub fn line(ordinal: u32, answer: Answer, line: &mut [u8; 40]) -> usize
-    ensures { λ r. ⌜ Counts r (now (line .exit)) ⌝ }
-    ensures { λ r. ⌜ take r (now (line .exit)) ≡ lineOf ordinal (answered answer) ⌝ }
-    ensures { λ _. ⌜ length (lineOf ordinal (answered answer)) ≤ 40 ⌝ }
+// The line of a record that is done, and the place after it.
+pub fn reply_line(text: &mut [u8], at: usize, ordinal: u32, reply: Reply) -> usize
+    ensures { λ r. ⌜ Printed (now (text .entry)) at (lineOf ordinal (done reply)) (now (text .exit)) r ⌝ }
 {
-    let at = text::append_decimal(line, 0, ordinal);
-    let at = text::append(line, at, b" ");
-    let at = put_answer(line, at, answer);
-    text::append(line, at, b"\n")
+    if is_full(text.len(), at) {
+        return at;
+    }
+    let at = text::append_decimal(text, at, ordinal);
+    put_reply(text, at, reply)
 }
 
-// The last line, from the messages that wait and all that were ever posted; what stands past it is left open.
-pub fn last_line(waiting: u8, posted: u32, line: &mut [u8; 40]) -> usize
-    ensures { λ r. ⌜ Counts r (now (line .exit)) ⌝ }
-    ensures { λ r. ⌜ take r (now (line .exit)) ≡ lastLine waiting posted ⌝ }
-    ensures { λ _. ⌜ length (lastLine waiting posted) ≤ 40 ⌝ }
+// The line of a record that is refused.
+pub fn refusal_line(text: &mut [u8], at: usize, ordinal: u32, refusal: Refusal) -> usize
+    ensures { λ r. ⌜ Printed (now (text .entry)) at (lineOf ordinal (no (reason refusal))) (now (text .exit)) r ⌝ }
 {
-    let at = put_pair(line, 0, b"end ", waiting as u16, b" posted ", posted);
-    text::append(line, at, b"\n")
+    if is_full(text.len(), at) {
+        return at;
+    }
+    let at = text::append_decimal(text, at, ordinal);
+    let at = text::append(text, at, b" no ");
+    let at = text::append_decimal(text, at, refusal.number() as u32);
+    text::append(text, at, b"\n")
+}
+
+// The last line, from the messages that wait and all that were ever posted.
+pub fn last_line(text: &mut [u8], at: usize, waiting: u8, posted: u32) -> usize
+    ensures { λ r. ⌜ Printed (now (text .entry)) at (lastLine waiting posted) (now (text .exit)) r ⌝ }
+{
+    if is_full(text.len(), at) {
+        return at;
+    }
+    let at = text::append(text, at, b"end ");
+    let at = text::append_decimal(text, at, waiting as u32);
+    let at = text::append(text, at, b" posted ");
+    let at = text::append_decimal(text, at, posted);
+    text::append(text, at, b"\n")
 }

@@ -27,14 +27,14 @@ use Rattle.node.specs.declared.Kind.the-variants.{SetR, SetRAck, SetRNak, SetL}
 use Rattle.node.specs.declared.Message.{Message}
 use Rattle.node.specs.Shape.{capacity}
 use Rattle.node.specs.Tests.{isOut, isInOrDel, target, seqOf, isRequest, isAnswer}
-use Rattle.node.specs.Actions.{Effect, alone, leaveRules as leaveStepRules, grants, onSetR, onSetRAck, onSetRNak, onSetL, onKind, actOf}
+use Rattle.node.specs.Actions.{Effect, alone, leaveRules as leaveStepRules, grants, onSetR, onSetRAck, onSetRNak, onSetL, onKind, actOf, wouldGrant}
 use Rattle.node.proofs.ActionLaws.{tested-out, tested-in, tested-link, granted, create-accepted, join-accepted, leave-alone-accepted, leave-accepted, receive-accepted, join-granted, leave-granted}
 use Rattle.node.proofs.FitLaws.{NodeFits, message-facts, left-named, right-named, number-named, well-formed-among, deliverable-among}
 use Rattle.protocol.specs.declared.Call.{Call}
 use Rattle.protocol.specs.declared.Order.the-variants.{Declare, Create, Join, Leave}
 use Rattle.protocol.specs.declared.Call.the-variants.{Order, Deliver}
 use Rattle.protocol.specs.State.{State, queueLimit, nodeAt, statusAt, keyAt, leftAt, rightAt, isDealingOf, dealings, wellFormed}
-use Rattle.protocol.specs.Calls.{refused, commit, isFull, isGrantable, declareRules, declaring, createRules, creating, peerAt, joinRules, joining, leaveRules, leaving, messageAt, without, wouldGrant, deliverRules, receiving, delivering, rulesOf, effectOf, applyOf}
+use Rattle.protocol.specs.Calls.{refused, commit, isFull, isGrantable, declareRules, declaring, createRules, creating, peerAt, joinRules, joining, leaveRules, leaving, messageAt, without, deliverRules, receiving, delivering, rulesOf, effectOf, applyOf}
 use Rattle.protocol.proofs.Waiting.{taken}
 use Rattle.protocol.proofs.Facts.{WellFormed, formed, tested}
 use Rattle.protocol.proofs.Changes.{Delivers, Grants, Act, drops, lets-in, lets-go, denies, joins, goes, stays-out, stays-in, takes, ignores, Accepted, declares, creates, asks, goes-alone, leaves, delivers, Change, refuses, accepts}

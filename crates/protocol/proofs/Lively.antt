@@ -19,13 +19,13 @@ use Rattle.node.specs.declared.Node.{Node}
 use Rattle.node.specs.declared.Kind.{Kind}
 use Rattle.node.specs.declared.Kind.the-variants.{SetR, SetRAck, SetRNak, SetL}
 use Rattle.node.specs.declared.Message.{Message}
-use Rattle.node.specs.Actions.{setR, setRAck, setRNak, setL}
+use Rattle.node.specs.Actions.{setR, setRAck, setRNak, setL, wouldGrant}
 use Rattle.node.proofs.FitLaws.{message-facts}
 use Rattle.protocol.specs.declared.Call.{Call}
 use Rattle.protocol.specs.declared.Call.the-variants.{Deliver}
 use Rattle.protocol.specs.State.{State, queueLimit, nodeAt, statusAt, isDealingOf, wellFormed}
 use Rattle.node.specs.Tests.{isRequest}
-use Rattle.protocol.specs.Calls.{Result, isFull, messageAt, wouldGrant, isGrantable, applyOf}
+use Rattle.protocol.specs.Calls.{Result, isFull, messageAt, isGrantable, applyOf}
 use Rattle.protocol.specs.Answer.{accepted}
 use Rattle.protocol.specs.Claim.{Delivers, delivered, load, Lively, SteadyClaim}
 use Rattle.protocol.proofs.Waiting.{dealings-most, Taken, taken}

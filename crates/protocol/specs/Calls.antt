@@ -2,7 +2,7 @@
 -- effect, which is that of one node's step: the node's rules are those of the crate `node`, and are not written a second time.
 -- Definitions only.
 use Prim.Native.Nat.{ℕ, suc}
-use mathlib.Core.Bool.{Bool, false, not, _&&_}
+use mathlib.Core.Bool.{Bool, not, _&&_}
 use mathlib.Core.List.{List, [], _∷_, _++_}
 use lib.ListN.{length, getD, set, take, drop}
 use lib.Dec.{ltb, eqb}
@@ -11,14 +11,12 @@ use Rattle.refusal.specs.Code.{Reason}
 use Rattle.refusal.specs.Rules.{Coded, done, no, Rule, _when_, ruled}
 use Rattle.serial.specs.Serial.{inRange}
 use Rattle.node.specs.declared.Node.{Node}
-use Rattle.node.specs.declared.Kind.{Kind}
-use Rattle.node.specs.declared.Kind.the-variants.{SetR, SetRAck, SetRNak, SetL}
 use Rattle.node.specs.declared.Message.{Message}
 use Rattle.node.specs.declared.Peer.{Peer}
 use Rattle.node.specs.declared.Outcome.{Outcome}
 use Rattle.node.specs.Shape.{declaredOf, capacity}
 use Rattle.node.specs.Tests.{isOut}
-use Rattle.node.specs.Actions.{Effect, setRNak, createOf, joinRules as joinStepRules, joinOf, alone, leaveRules as leaveStepRules, leaveOf, grants, receiveOf}
+use Rattle.node.specs.Actions.{Effect, setRNak, createOf, joinRules as joinStepRules, joinOf, alone, leaveRules as leaveStepRules, leaveOf, wouldGrant, receiveOf}
 use Rattle.protocol.specs.declared.Call.{Call}
 use Rattle.protocol.specs.declared.Order.the-variants.{Declare, Create, Join, Leave}
 use Rattle.protocol.specs.declared.Call.the-variants.{Order, Deliver}
@@ -130,13 +128,6 @@ messageAt s place = getD (s .messages) place (setRNak 0 0)
 -- "takes the message at a place, closes the gap"
 abbrev pub without : ℕ → List Message → List Message
 without place ms = take place ms ++ drop (suc place) ms
-
--- "a SetR that would be granted"
-abbrev pub wouldGrant : Node → ℕ → Kind → Bool
-wouldGrant p v (SetR new expected number) = grants p v new expected
-wouldGrant p v (SetRAck number) = false
-wouldGrant p v SetRNak = false
-wouldGrant p v (SetL left number) = false
 
 -- whether the message at a place would be granted by the node it is for
 abbrev pub isGrantable : State → ℕ → Bool

@@ -10,8 +10,8 @@ mod sheets;
 mod state;
 
 pub(crate) fn show(title: &[u8], script: &[u8]) {
-    let mut text = runner::buffer();
-    let used = runner::printout(script, &mut text);
+    let mut text = [0u8; 1048576];
+    let used = engine::printout(script, &mut text);
     io::write_all(1, b"== ");
     io::write_all(1, title);
     io::write_all(1, b"\n");

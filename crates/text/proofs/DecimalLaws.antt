@@ -20,7 +20,7 @@ one-more-digit : (enough n : ℕ) → 10 ≤ n → decimalBelow (suc enough) n �
 one-more-digit enough n high = rw (le-ltb n 10 high)
 
 -- ---- the fewest digits that hold a number are its decimal
-glyph-digit : (d : ℕ) → d < 10 → glyph d ≡ digit d
+pub glyph-digit : (d : ℕ) → d < 10 → glyph d ≡ digit d
 glyph-digit d low = rw (lt-ltb d 10 low)
 
 fewest-below : (n k enough : ℕ) → n ≤ enough → n < 10 ^ suc k → (0 < k → 10 ^ k ≤ n) → digits 10 (suc k) n ≡ decimalBelow (suc enough) n

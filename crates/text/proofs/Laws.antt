@@ -6,9 +6,8 @@ use mathlib.Core.List.{List, _++_, append-assoc}
 use native.Mathlib.Omega.{arith}
 use native.Mathlib.Nat.{le-refl, add-assoc}
 use lib.ListN.{length, take, drop, length-append}
-use lib.Seq.{paste, length-paste, take-paste, drop-paste, take-length, drop-drop, length-take-le}
+use lib.Seq.{paste, length-paste, take-paste, drop-paste, take-length, drop-drop}
 use borrow.Author.Tests.{le-leb, lt-leb, leb-true}
-use Rattle.io.specs.Counts.{Counts}
 use Rattle.truth.proofs.Laws.{by-test}
 use Rattle.text.specs.Text.{fits, pasted, placeAfter, Put}
 
@@ -109,17 +108,3 @@ put-four {a} {piece = piece} {second} {third} {fourth} {at} p q r s room =
     let three = room-for-first a at (piece ++ second ++ third) fourth room in
     let two = room-for-first a at (piece ++ second) third three in
     put-both (put-both (put-both p q two) r three) s room
-
--- a text that is put at the start of a buffer with room for it: what stands before the place after it is the text
-module _ {buffer after piece : List ℕ} {r : ℕ} (room : 0 + length piece ≤ length buffer) (whole : Put buffer 0 piece after r) where
-  inside : r ≤ length after
-  inside = rw (whole .place, whole .written, length-pasted) (omega (arith, place-after buffer 0 piece room))
-
-  put-counts : Counts r after
-  put-counts = (inside, sym (length-take-le r after inside))
-
-  put-reads : take r after ≡ piece
-  put-reads = rw (whole .place, whole .written) (take-pasted buffer 0 piece room)
-
-  pub put-at-start : Counts r after × (take r after ≡ piece)
-  put-at-start = (put-counts, put-reads)

@@ -1,3 +1,4 @@
 pub mod Laws
 pub mod Copying
 pub mod DecimalLaws
+pub mod Spelling

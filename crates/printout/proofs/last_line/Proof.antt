@@ -1,32 +1,39 @@
--- `printout::last_line` meets its contract: the words are put and the line end after them, and the line has room for both. Assumes nothing.
-use native.Mathlib.Omega.{arith}
-use lib.ListN.{length}
-use Prim.Native.Nat.{_+_, _≤_}
-use borrow.Author.Needs.{needs}
-use Rattle.text.proofs.Laws.{put, put-keeps-length, put-both, put-at-start}
-use Rattle.printout.specs.Lines.{lastLine}
-use Rattle.printout.proofs.Laws.{short-last-line}
+-- `printout::last_line` meets its contract: words, numbers and line end are put one after the other where there is room. Assumes nothing.
+use mathlib.Core.Path.{refl}
+use Rattle.text.proofs.Laws.{put, put-keeps-length}
+use Rattle.printout.proofs.Laws.{full, roomy, not-printed, printed-last, printed-keeps-length}
 use Rattle.printout.proofs.last_line.Statement.{statement}
 use Rattle.printout.proofs.last_line.Tie as tie
 
-returns : tie.Need-returns
-unfolding lastLine
-returns c =
-    let a = c .before .before .before .before .before .before .before .args in
-    let (words-put, few) = c .before .before .before .put-pair .ensures in
-    let short = short-last-line (a .waiting) (a .posted) few in
-    let room : 0 + length (lastLine (a .waiting) (a .posted)) ≤ length (a .line .now) = omega (arith, short, put-keeps-length words-put) in
-    let (counts, reads) =
-    put-at-start room (put-both words-put (put (c .append .ensures)) room) in
-    (counts, (reads, short))
+whole : tie.Need-returns-2
+whole c =
+    let end = c .before .before in
+    let more = end .before .before .before .before .before in
+    let other = more .before .before .before .before in
+    let number = other .before .before .before .before .before in
+    let first = number .before .before .before .before in
+    let test = first .before .before .before in
+    let start = test .before .before .before in
+    printed-last
+    (roomy (test .before .is-full .ensures) (test .if1 .left))
+    (start .fits .waiting .fits)
+    (start .fits .posted .fits)
+    (put (first .append .ensures)) (put (number .append-decimal .ensures))
+    (put (other .append2 .ensures)) (put (more .append-decimal2 .ensures)) (put (end .append3 .ensures))
 
 pub last-line-spec : {M : Type 1} → statement M
 last-line-spec =
     tie.close
     (tie.spec
-    (λ c. search needs)
-    (λ c. search needs)
-    (λ c κs. search needs)
-    (λ c. search needs)
-    (λ c κs. search needs)
-    returns)
+    (λ c κs. tt)
+    (λ c. not-printed (full (c .before .is-full .ensures) (c .if1 .taken)))
+    (λ c. refl)
+    (λ c κs. tt)
+    (λ c κs. tt)
+    (λ c. refl)
+    (λ c κs. tt)
+    (λ c κs. tt)
+    (λ c. refl)
+    (λ c κs. tt)
+    (λ c. printed-keeps-length (whole c))
+    whole)

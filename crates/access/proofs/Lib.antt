@@ -1,0 +1,12 @@
+pub mod Shift
+pub mod Stores
+pub mod Fitting
+pub mod Inside
+pub mod Straight
+pub mod Locals
+pub mod Data
+pub mod Frame
+pub mod Places
+pub mod Calling
+pub mod Lending
+pub mod Reading

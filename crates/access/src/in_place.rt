@@ -1,0 +1,152 @@
+// The arrays of a network where they lie, behind a reference: no array is copied, but for a search. Each function is walked by hand, since the
+// borrow checker does not cover a reference to a struct.
+ghost use mathlib.Core.Path.{_≡_};
+ghost use Prim.Native.Nat.{_+_, _<_, _≤_};
+ghost use lib.ListN.{length};
+ghost use Rattle.node.specs.Actions.{posted as listed};
+ghost use Rattle.access.specs.Changes.{placed, added, closed, allPosted, written, committed};
+ghost use Rattle.access.specs.Sights.{sightOf, arrivalOf, foundOf};
+use crate::Arrival;
+use crate::Change;
+use crate::Found;
+use crate::Sight;
+use crate::Spots;
+use crate::by_value;
+use crate::search;
+use network::CAPACITY;
+use network::Network;
+use network::QUEUE_LIMIT;
+use network::VACANT_MESSAGE;
+use node::Node;
+use node::Posts;
+use protocol::Order;
+
+fn place_node(network: &mut Network, number: u8, node: Node)
+    requires { ⌜ number < 32 ⌝ }
+    ensures { λ _. ⌜ now (network .exit) ≡ placed (now (network .entry)) number node ⌝ }
+{
+    network.nodes[number as usize] = node;
+}
+
+fn add_node(network: &mut Network, node: Node)
+    requires { ⌜ now network .count < 32 ⌝ }
+    ensures { λ _. ⌜ now (network .exit) ≡ added (now (network .entry)) node ⌝ }
+{
+    let count = network.count;
+    network.nodes[count as usize] = node;
+    network.count = count + 1;
+}
+
+// "closes the gap".
+fn take_message(network: &mut Network, place: u8)
+    requires { ⌜ (place < now network .waiting) × (now network .waiting ≤ 64) ⌝ }
+    ensures { λ _. ⌜ now (network .exit) ≡ closed (now (network .entry)) place ⌝ }
+{
+    let last = network.waiting - 1;
+    let end = last as usize;
+    let mut i = place as usize;
+    while i < end {
+        let next = network.messages[i + 1];
+        network.messages[i] = next;
+        i += 1;
+    }
+    network.messages[end] = VACANT_MESSAGE;
+    network.waiting = last;
+}
+
+fn post(network: &mut Network, posts: Posts)
+    requires { ⌜ now network .waiting + length (listed posts) ≤ 64 ⌝ }
+    ensures { λ _. ⌜ now (network .exit) ≡ allPosted (now (network .entry)) (listed posts) ⌝ }
+{
+    let waiting = network.waiting;
+    match posts {
+        Posts::Nothing => {}
+        Posts::One(first) => {
+            network.messages[waiting as usize] = first;
+            network.waiting = waiting + 1;
+        }
+        Posts::Two(first, second) => {
+            network.messages[waiting as usize] = first;
+            network.messages[waiting as usize + 1] = second;
+            network.waiting = waiting + 2;
+        }
+    }
+}
+
+// A change carried out; one that finds no room is none.
+pub fn commit(network: &mut Network, change: Change)
+    ensures { λ _. ⌜ now (network .exit) ≡ committed (now (network .entry)) (written change) ⌝ }
+{
+    let count = network.count;
+    let waiting = network.waiting;
+    let sound = by_value::fitting(change, count, waiting);
+    match sound {
+        Change::Nothing => {}
+        Change::Add(node) => add_node(network, node),
+        Change::Step {
+            number,
+            node,
+            posts,
+        } => {
+            place_node(network, number, node);
+            post(network, posts);
+        }
+        Change::Deliver {
+            place,
+            number,
+            node,
+            posts,
+        } => {
+            take_message(network, place);
+            place_node(network, number, node);
+            post(network, posts);
+        }
+    }
+}
+
+// What stands at some spots; a number past an array counts from its beginning again.
+pub fn look(network: &mut Network, spots: Spots) -> Sight
+    ensures { λ r. ⌜ (r ≡ sightOf (now (network .entry)) spots) × (now (network .exit) ≡ now (network .entry)) ⌝ }
+{
+    let count = network.count;
+    let waiting = network.waiting;
+    let number = spots.node % CAPACITY;
+    let node = network.nodes[number as usize];
+    let before = spots.left % CAPACITY;
+    let left = network.nodes[before as usize];
+    let beyond = spots.right % CAPACITY;
+    let right = network.nodes[beyond as usize];
+    Sight {
+        count,
+        waiting,
+        node,
+        left,
+        right,
+    }
+}
+
+// The message at a place, and the node that it is for.
+pub fn meet(network: &mut Network, place: u8) -> Arrival
+    ensures { λ r. ⌜ (r ≡ arrivalOf (now (network .entry)) place) × (now (network .exit) ≡ now (network .entry)) ⌝ }
+{
+    let waiting = network.waiting;
+    let at = place % QUEUE_LIMIT;
+    let message = network.messages[at as usize];
+    let to = message.to % CAPACITY;
+    let node = network.nodes[to as usize];
+    Arrival {
+        waiting,
+        message,
+        node,
+    }
+}
+
+// What an order's search finds. Only an order that asks for one pays for it.
+pub fn find(network: &mut Network, order: Order) -> Found
+    ensures { λ r. ⌜ (r ≡ foundOf (now (network .entry)) order) × (now (network .exit) ≡ now (network .entry)) ⌝ }
+{
+    if search::asks(order) {
+        return search::found(*network, order);
+    }
+    search::nothing()
+}

@@ -1,0 +1,4 @@
+pub mod RecordLaws
+pub mod NeverLaws
+pub mod ScriptLaws
+pub mod Theorem

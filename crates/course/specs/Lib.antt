@@ -1,0 +1,3 @@
+pub mod Performance
+pub mod Run
+pub mod Claim

@@ -1,0 +1,59 @@
+-- The printout of a script: its records one after the other from the empty network, a line for each. Definitions only.
+use Prim.Native.Nat.{ℕ, zero, suc, _+_}
+use mathlib.Core.Bool.{cond}
+use mathlib.Core.List.{List, _++_}
+use lib.ListN.{length}
+use lib.Dec.{ltb}
+use Rattle.refusal.specs.Code.{plain}
+use Rattle.refusal.specs.Rules.{no}
+use Rattle.protocol.specs.State.{State, empty}
+use Rattle.script.specs.Script.{Read, end, stop, next, readAt}
+use Rattle.printout.specs.Lines.{heading, lineOf, lastLine}
+use Rattle.course.specs.Performance.{performOf}
+
+-- how far a run has come: the network, the cursor, the ordinal of the last record, all messages posted, and the printout so far
+pub record Progress : Type 0 where
+  pub state : State
+  pub at : ℕ
+  pub ordinal : ℕ
+  pub posted : ℕ
+  pub text : List ℕ
+
+abbrev pub start : Progress
+start = record { state = empty; at = 0; ordinal = 0; posted = 0; text = heading }
+
+-- one more record, by what is read at the cursor; "Refusals 1 and 2 stop the reading; after others it goes on": nothing is read past the end
+abbrev pub advanced : List ℕ → Progress → Read → Progress
+advanced script p end = p
+advanced script p (stop r) = record { state = p .state; at = length script; ordinal = p .ordinal + 1; posted = p .posted; text = p .text ++ lineOf (p .ordinal + 1) (no r) }
+advanced script p (next asked after) = record {
+  state = performOf (p .state) asked .state;
+  at = after;
+  ordinal = p .ordinal + 1;
+  posted = p .posted + length (performOf (p .state) asked .posts);
+  text = p .text ++ lineOf (p .ordinal + 1) (performOf (p .state) asked .said);
+}
+
+abbrev pub stepOf : List ℕ → Progress → Progress
+stepOf script p = advanced script p (readAt script (p .at))
+
+-- after so many records; past the last one there is no change
+abbrev pub after : List ℕ → ℕ → Progress
+after script zero = start
+after script (suc k) = stepOf script (after script k)
+
+-- "Last: `end P posted T`, P messages waiting, T all messages ever posted."
+abbrev pub closed : Progress → List ℕ
+closed p = p .text ++ lastLine (length (p .state .messages)) (p .posted)
+
+-- "A script is at most 65,536 bytes."
+abbrev pub sizeLimit : ℕ
+sizeLimit = 65_536
+
+-- "only `ring 1`, `0 no 7` and `end 0 posted 0` are printed"
+abbrev pub tooLong : List ℕ
+tooLong = (heading ++ lineOf 0 (no (plain 7))) ++ lastLine 0 0
+
+-- a script has no more records than bytes
+unfoldable pub printoutOf : List ℕ → List ℕ
+printoutOf script = cond (ltb sizeLimit (length script)) tooLong (closed (after script (length script)))

@@ -1,0 +1,118 @@
+-- No rules stand here: it is what the code decides from the values that it looks at, by tests in the order of the rules. The rules are those of
+-- the crate `protocol`, and that these decisions come to them is proved in the crate `engine`. Definitions only.
+use Prim.Native.Nat.{ℕ, _+_, _-_}
+use mathlib.Core.Bool.{Bool, not, _&&_, cond}
+use mathlib.Core.List.{List, [], _∷_}
+use mathlib.Core.Option.{Option, some}
+use lib.ListN.{length}
+use lib.Dec.{leb, ltb}
+use Rattle.refusal.specs.Code.{Reason, plain}
+use Rattle.refusal.specs.Rules.{Coded, done, no, Rule, _when_, first, settled, ruled}
+use Rattle.serial.specs.Serial.{inRange}
+use Rattle.node.specs.declared.Node.{Node}
+use Rattle.node.specs.declared.Message.{Message}
+use Rattle.node.specs.Shape.{declaredOf, capacity}
+use Rattle.node.specs.Actions.{Effect, createOf, joinOf, leaveOf, actOf}
+use Rattle.protocol.specs.declared.Order.{Order}
+use Rattle.protocol.specs.declared.Order.the-variants.{Declare, Create, Join, Leave}
+use Rattle.protocol.specs.declared.Reply.{Reply}
+use Rattle.protocol.specs.declared.Reply.the-variants.{Declared}
+use Rattle.protocol.specs.State.{queueLimit}
+use Rattle.protocol.specs.Calls.{stepped}
+use Rattle.protocol.specs.Answer.{answered}
+use Rattle.access.specs.declared.Spots.{Spots}
+use Rattle.access.specs.declared.Sight.{Sight}
+use Rattle.access.specs.declared.Arrival.{Arrival}
+use Rattle.access.specs.declared.Found.{Found}
+use Rattle.access.specs.Changes.{Written, nothing, adds, steps, delivers, written}
+use Rattle.decision.specs.declared.Decision.{Decision}
+
+-- ---- where an order looks
+abbrev pub spotsOf : Order → Spots
+spotsOf (Declare key) = record { node = 0; left = 0; right = 0 }
+spotsOf (Create u) = record { node = u; left = 0; right = 0 }
+spotsOf (Join u p q) = record { node = u; left = p; right = q }
+spotsOf (Leave u) = record { node = u; left = 0; right = 0 }
+
+-- ---- a decision: what is to be written, how many messages are posted, and what is said
+pub record Decided : Type 0 where
+  pub change : Written
+  pub posted : ℕ
+  pub said : Coded Reply
+
+abbrev pub decided : Decision → Decided
+decided d = record { change = written (d .change); posted = d .report .posted; said = answered (d .report .answer) }
+
+abbrev pub turnedAway : Reason → Decided
+turnedAway r = record { change = nothing; posted = 0; said = no r }
+
+abbrev pub adding : ℕ → ℕ → Decided
+adding number key = record { change = adds (declaredOf key); posted = 0; said = done (Declared number key) }
+
+abbrev pub stepping : ℕ → Effect → Decided
+stepping u e = record { change = steps u (e .node) (e .posts); posted = length (e .posts); said = stepped (e .said) }
+
+abbrev pub delivering : ℕ → ℕ → Effect → Decided
+delivering place u e = record { change = delivers place u (e .node) (e .posts); posted = length (e .posts); said = stepped (e .said) }
+
+-- ---- tests
+-- after a node's step: what the step refuses, and else what the rest says
+abbrev pub afterStep : {A : Type 0} → Coded A → Option Reason → Option Reason
+afterStep (done a) rest = rest
+afterStep (no r) rest = some r
+
+-- the posts of a step find no room after so many messages, which is how the code comes to 28
+abbrev pub roomTests : ℕ → List Message → List Rule
+roomTests waiting posts = (28 when not (leb (waiting + length posts) queueLimit)) ∷ []
+
+-- where a number is not declared
+abbrev pub unless : Bool → Option Reason → Option Reason
+unless known rest = cond (not known) (some (plain 5)) rest
+
+-- ---- each order
+abbrev pub declareTests : ℕ → ℕ → Bool → List Rule
+declareTests key count taken = (4 when not (inRange key)) ∷ (20 when not (ltb count capacity)) ∷ (21 when taken) ∷ []
+
+abbrev pub declareDecision : ℕ → ℕ → Bool → Decided
+declareDecision key count taken = ruled (declareTests key count taken) turnedAway (adding count key)
+
+abbrev pub createTests : Found → List Rule
+createTests found = (22 when found .standing) ∷ (25 when found .notice) ∷ []
+
+abbrev pub createDecision : ℕ → ℕ → Node → Found → Decided
+createDecision u count node found = settled (unless (ltb u count) (first (createTests found))) turnedAway (stepping u (createOf u node))
+
+-- the step of a join, between the nodes in sight
+abbrev pub joinStep : ℕ → ℕ → ℕ → Sight → Effect
+joinStep u p q s = joinOf u (s .node) (record { number = p; key = s .left .key }) (record { number = q; key = s .right .key })
+
+abbrev pub joinTests : ℕ → ℕ → ℕ → Sight → Bool → Option Reason
+joinTests u p q s notice =
+    unless (ltb u (s .count) && (ltb p (s .count) && ltb q (s .count)))
+    (afterStep (joinStep u p q s .said) (first ((25 when notice) ∷ roomTests (s .waiting) (joinStep u p q s .posts))))
+
+abbrev pub joinDecision : ℕ → ℕ → ℕ → Sight → Bool → Decided
+joinDecision u p q s notice = settled (joinTests u p q s notice) turnedAway (stepping u (joinStep u p q s))
+
+abbrev pub leaveTests : ℕ → ℕ → ℕ → Node → Option Reason
+leaveTests u count waiting node = unless (ltb u count) (afterStep (leaveOf u node .said) (first (roomTests waiting (leaveOf u node .posts))))
+
+abbrev pub leaveDecision : ℕ → ℕ → ℕ → Node → Decided
+leaveDecision u count waiting node = settled (leaveTests u count waiting node) turnedAway (stepping u (leaveOf u node))
+
+abbrev pub orderDecision : Order → Sight → Found → Decided
+orderDecision (Declare key) s f = declareDecision key (s .count) (f .taken)
+orderDecision (Create u) s f = createDecision u (s .count) (s .node) f
+orderDecision (Join u p q) s f = joinDecision u p q s (f .notice)
+orderDecision (Leave u) s f = leaveDecision u (s .count) (s .waiting) (s .node)
+
+-- ---- a delivery
+-- what the node that the message is for does with it
+abbrev pub receiveStep : Arrival → Effect
+receiveStep a = actOf (a .message .to) (a .node) (a .message .sender) (a .message .kind)
+
+abbrev pub deliverTests : ℕ → Arrival → List Rule
+deliverTests place a = (29 when not (ltb place (a .waiting))) ∷ roomTests (a .waiting - 1) (receiveStep a .posts)
+
+abbrev pub deliveryDecision : ℕ → Arrival → Decided
+deliveryDecision place a = ruled (deliverTests place a) turnedAway (delivering place (a .message .to) (receiveStep a))

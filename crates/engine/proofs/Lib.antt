@@ -1,0 +1,15 @@
+pub mod AnswerLaws
+pub mod RunLaws
+pub mod StepLaws
+pub mod CallLaws
+pub mod DrainLaws
+pub mod RingLaws
+pub mod Example
+pub mod RecordLaws
+pub mod TaskLaws
+pub mod StepOfScript
+pub mod LoopLaws
+pub mod Values
+pub mod Variants
+pub mod TaskValues
+pub mod Doors

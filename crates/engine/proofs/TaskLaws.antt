@@ -1,0 +1,115 @@
+-- A record on the arrays of a well-formed network is its task: a call, a question or a drain is that of the lists, and where a field is refused the
+-- very network comes back with the reason. A question leaves the network as it is, and a task that is admitted is what was asked. Assumes nothing.
+use mathlib.Core.Path.{_≡_, refl, sym, subst}
+use mathlib.Core.Logic.{⊎-elim}
+use mathlib.Core.Bool.{true, false, cond, not}
+use mathlib.Core.List.{[], _∷_}
+use mathlib.Core.Option.{Option, none, some}
+use Prim.Native.Nat.{ℕ, _≤_, _<_}
+use native.Mathlib.Omega.{arith}
+use lib.ListN.{length}
+use borrow.Author.Tests.{lt-ltb, le-ltb}
+use Rattle.truth.proofs.TestLaws.{decided}
+use Rattle.refusal.specs.declared.Refusal.the-variants.{Malformed}
+use Rattle.refusal.specs.Code.{Reason, plain}
+use Rattle.refusal.specs.Rules.{Coded, no, _when_, first, settled}
+use Rattle.serial.specs.declared.Serial.{Serial}
+use Rattle.serial.specs.declared.Serial.the-variants.{Value, BadDigit, TooLarge}
+use Rattle.serial.specs.Serial.{coded}
+use Rattle.protocol.specs.declared.Call.{Call}
+use Rattle.protocol.specs.declared.Reply.{Reply}
+use Rattle.protocol.specs.Answer.{answered}
+use Rattle.protocol.specs.State.{State, declared, wellFormed as listsAreWellFormed}
+use Rattle.protocol.specs.Calls.{refused as listsRefused}
+use Rattle.protocol.specs.Questions.{ownerOf as ownerInLists}
+use Rattle.network.specs.declared.Network.{Network}
+use Rattle.network.specs.Arrays.{live, wellFormed, held}
+use Rattle.network.proofs.Lengths.{Lengths}
+use Rattle.network.proofs.ArrayLaws.{formed, held-live}
+use Rattle.network.proofs.LiveLaws.{nodes-length}
+use Rattle.script.specs.declared.Record.{Record}
+use Rattle.script.specs.declared.Record.the-variants as asks
+use Rattle.decision.specs.declared.Report.{Report}
+use Rattle.engine.specs.Outcomes.{Applied, counted, reported, refused, inArrays, applyOf, drainOf}
+use Rattle.engine.specs.Answers.{ownerOf}
+use Rattle.course.specs.Performance.{fieldRules, valueOf, saying, performOf as performOnLists}
+use Rattle.engine.specs.InArrays.{performOf}
+use Rattle.engine.specs.declared.tasks.Task.{Task}
+use Rattle.engine.specs.declared.tasks.Task.the-variants.{Refuse, Call as CallTask, Drain}
+use Rattle.engine.specs.Computed.{taskOf, doneOn, Allowed}
+use Rattle.engine.proofs.RunLaws.{malformed, malformed-drain}
+
+-- what is only said, or refused, leaves the lists and posts nothing
+quiet : (s : State) {n : Network} → held s ≡ n → (o : Option Reason) (said : Coded Reply)
+    → inArrays (settled o (listsRefused s) (saying s said)) ≡ record { network = n; posts = []; said = settled o (listsRefused s) (saying s said) .said }
+quiet s e none said = rw e
+quiet s e (some r) said = rw e
+
+-- r is a report of what was done, beside the network m that it left
+abbrev pub Reports : Applied → Report → Network → Type 0
+Reports a r m = reported m r ≡ counted a
+
+-- what is only told is reported so
+pub told-so : (n : Network) (r : Report) {said : Coded Reply} → answered (r .answer) ≡ said → r .posted ≡ 0 → Reports (record { network = n; posts = []; said = said }) r n
+told-so n r e none-posted = λ i. record { network = n; posted = none-posted i; said = e i }
+
+module _ (n : Network) (l : Lengths n) (h : wellFormed n ≡ true) where
+  same : held (live n) ≡ n
+  same = held-live n (l .nodes) (l .messages) h
+
+  -- ---- the owner of a serial, as a record asks it
+  module _ (start : ℕ) where
+    pub owner-undeclared : (serial : Serial) → n .count ≤ start → no (plain 5) ≡ performOf n (asks.Owner start serial) .said
+    unfolding performOf performOnLists
+    owner-undeclared serial past =
+        let absent : declared (live n) start ≡ false = le-ltb start (length (live n .nodes)) (omega (arith, nodes-length n l h)) in
+        simp (h, formed n h .lists, absent)
+
+    known : start < n .count → declared (live n) start ≡ true
+    known here = lt-ltb start (length (live n .nodes)) (omega (arith, nodes-length n l h))
+
+    pub owner-serial-refused : start < n .count → (serial : Serial) (r : Reason) → coded serial ≡ no r → no r ≡ performOf n (asks.Owner start serial) .said
+    unfolding performOf performOnLists
+    owner-serial-refused here serial r e = rw (h, formed n h .lists, known here, e)
+
+    pub owner-asked : start < n .count → {serial : Serial} {value : ℕ} → serial ≡ Value value → ownerOf n start value ≡ performOf n (asks.Owner start serial) .said
+    unfolding performOf performOnLists ownerOf
+    owner-asked here e = rw (h, formed n h .lists, known here, e)
+
+    -- it leaves the network and posts nothing, whether or not it is refused
+    pub owner-leaves : (serial : Serial) → performOf n (asks.Owner start serial) ≡ record { network = n; posts = []; said = performOf n (asks.Owner start serial) .said }
+    unfolding performOf performOnLists
+    owner-leaves serial =
+        rw h (quiet (live n) same (first ((6 when not (listsAreWellFormed (live n))) ∷ fieldRules (live n) (asks.Owner start serial))) (ownerInLists (live n) start (valueOf (coded serial))))
+
+  -- ---- a record is its task
+  pub task-done : (asked : Record) → counted (doneOn n (taskOf asked)) ≡ counted (performOf n asked)
+  unfolding performOf performOnLists applyOf drainOf
+  task-done (asks.Call call) = rw (h, formed n h .lists)
+  task-done (asks.Declare (Value key)) = rw (h, formed n h .lists)
+  task-done (asks.Declare BadDigit) = rw (h, formed n h .lists, same)
+  task-done (asks.Declare TooLarge) = rw (h, formed n h .lists, same)
+  task-done (asks.Owner start serial) = refl
+  task-done (asks.Drain budget) = rw (h, formed n h .lists)
+
+-- ---- what is asked of any network: the task where it is well formed, and else to tell 6
+pub record Admits (n : Network) (t : Task) (a : Applied) : Type 0 where
+  pub allowed : Allowed n t
+  pub comes : doneOn n t ≡ a
+
+module _ (n : Network) (good : Task) (a : Applied) (may : wellFormed n ≡ true → Allowed n good) (is : doneOn n good ≡ a)
+    (six : wellFormed n ≡ false → a ≡ refused n (plain 6)) where
+  admits : (t : Task) → t ≡ cond (wellFormed n) good (Refuse Malformed) → Admits n t a
+  admits t e = subst (λ (s : Task). Admits n s a) (sym e) (⊎-elim well ill (decided (wellFormed n)))
+    where
+      well : wellFormed n ≡ true → Admits n (cond (wellFormed n) good (Refuse Malformed)) a
+      well h = rw h (record { allowed = may h; comes = is })
+
+      ill : wellFormed n ≡ false → Admits n (cond (wellFormed n) good (Refuse Malformed)) a
+      ill f = rw f (record { allowed = tt; comes = sym (six f) })
+
+pub call-admitted : (n : Network) (call : Call) (t : Task) → t ≡ cond (wellFormed n) (CallTask call) (Refuse Malformed) → Admits n t (applyOf n call)
+call-admitted n call = admits n (CallTask call) (applyOf n call) (λ h. h) refl (malformed n call)
+
+pub drain-admitted : (n : Network) (budget : ℕ) (t : Task) → t ≡ cond (wellFormed n) (Drain budget) (Refuse Malformed) → Admits n t (drainOf n budget)
+drain-admitted n budget = admits n (Drain budget) (drainOf n budget) (λ h. h) refl (malformed-drain n budget)

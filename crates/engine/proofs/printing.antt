@@ -1,0 +1,3 @@
+-- What the walks of `step` and `run` share.
+mod KeptRows
+mod Stepping

@@ -1,0 +1,34 @@
+-- `engine::questions::inserted` meets its contract: 6 where the network is not well formed, and else the word and its ones. Assumes nothing.
+use borrow.Author.Needs.{needs}
+use mathlib.Core.Path.{_≡_, sym, ap, _∙_}
+use Prim.Native.Nat.{ℕ}
+use lib.Count.{ones}
+use borrow.Author.Tests.{not-true, not-false}
+use Rattle.refusal.specs.Rules.{done}
+use Rattle.protocol.specs.declared.Reply.the-variants.{Inserted}
+use Rattle.network.proofs.Lengths.{lengths}
+use Rattle.members.proofs.QuestionLaws.{inserted-told}
+use Rattle.engine.specs.Answers.{insertedOf}
+use Rattle.engine.proofs.questions.inserted.Statement.{statement}
+use Rattle.engine.proofs.questions.inserted.Tie as tie
+
+returns : tie.Need-returns
+unfolding insertedOf
+returns c = rw (sym (c .before .is-well-formed .ensures) ∙ not-true _ (c .if1 .taken))
+
+returns-2 : tie.Need-returns-2
+unfolding insertedOf
+returns-2 c =
+    let tested = c .before .before in
+    let start = tested .before in
+    let h = sym (tested .is-well-formed .ensures) ∙ not-false _ (c .before .if1 .left) in
+    ap (λ (w : ℕ). done (Inserted w (ones w))) (c .word .ensures) ∙ rw h (inserted-told (start .args .network) (lengths _ _ (start .good .0)) h)
+
+pub inserted-spec : {M : Type 1} → statement M
+inserted-spec =
+    tie.close
+    (tie.spec
+    (λ c κs. search needs)
+    returns
+    (λ c κs. search needs)
+    returns-2)

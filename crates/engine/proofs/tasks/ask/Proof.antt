@@ -1,0 +1,31 @@
+-- `engine::tasks::ask` meets its contract, by what was read. Assumes nothing.
+use borrow.Author.Needs.{needs}
+use mathlib.Core.Path.{_≡_, refl, sym, subst, _∙_}
+use Prim.Native.Nat.{ℕ}
+use lib.ListN.{length}
+use Rattle.script.specs.declared.Reading.{Reading}
+use Rattle.script.specs.declared.Reading.the-variants.{End, Stopped, Next}
+use Rattle.script.specs.Script.{Read, reading}
+use Rattle.engine.specs.declared.tasks.Asked.{Asked}
+use Rattle.engine.specs.Computed.{taskRead, cursorAfter, Asks}
+use Rattle.engine.proofs.tasks.ask.Statement.{statement}
+use Rattle.engine.proofs.tasks.ask.Tie as tie
+
+asks : (size : ℕ) (r : Reading) (a : Asked) → (a .task ≡ taskRead r) × (a .after ≡ cursorAfter size r) → Asks size (reading r) a
+asks size End a e = tt
+asks size (Stopped q) a (task, after) = (q, task, refl, after)
+asks size (Next asked c) a e = e
+
+returns : tie.Need-returns
+returns c =
+    let read = c .before in
+    let size = length (read .before .before .args .script .now) in
+    subst (λ (r : Read). Asks size r (c .asked-by .result)) (read .read .ensures) (asks size (read .read .result) (c .asked-by .result) (c .asked-by .ensures))
+
+pub ask-spec : {M : Type 1} → statement M
+ask-spec =
+    tie.close
+    (tie.spec
+    (λ c κs. search needs)
+    (λ c κs. search needs)
+    returns)

@@ -1,0 +1,89 @@
+-- No rules stand here: it is what the code computes on its way, a decision from what a call looks at, the decision carried out, the next delivery of
+-- a drain, and a record as a task. That this is what the rules say of a well-formed network is proved in `proofs/`. Definitions only.
+use Prim.Native.Nat.{ℕ}
+use mathlib.Core.Path.{_≡_}
+use mathlib.Core.Bool.{true, cond}
+use mathlib.Core.Option.{Option, none, some}
+use Rattle.refusal.specs.declared.Refusal.{Refusal}
+use Rattle.refusal.specs.declared.Refusal.the-variants.{BadDigit, SerialTooLarge, CutShort}
+use Rattle.refusal.specs.Code.{reason}
+use Rattle.serial.specs.declared.Serial.{Serial}
+use Rattle.serial.specs.declared.Serial.the-variants as serial
+use Rattle.protocol.specs.declared.Order.the-variants.{Declare}
+use Rattle.protocol.specs.declared.Call.{Call}
+use Rattle.protocol.specs.declared.Call.the-variants.{Order, Deliver}
+use Rattle.protocol.specs.Drain.{lowest}
+use Rattle.network.specs.declared.Network.{Network}
+use Rattle.network.specs.Arrays.{live, wellFormed}
+use Rattle.access.specs.Changes.{committed}
+use Rattle.access.specs.Sights.{sightOf, arrivalOf, foundOf}
+use Rattle.decision.specs.Decisions.{Decided, spotsOf, orderDecision, deliveryDecision}
+use Rattle.script.specs.declared.Record.{Record}
+use Rattle.script.specs.declared.Record.the-variants as record′
+use Rattle.script.specs.declared.Reading.{Reading}
+use Rattle.script.specs.declared.Reading.the-variants as reading
+use Rattle.script.specs.Script.{Read, end, stop, next}
+use Rattle.engine.specs.declared.tasks.Asked.{Asked}
+use Rattle.engine.specs.declared.tasks.Task.{Task}
+use Rattle.engine.specs.declared.tasks.Task.the-variants as task
+use Rattle.engine.specs.Outcomes.{Applied, refused, Counted, applyOf, drainOf}
+use Rattle.engine.specs.InArrays.{performOf}
+
+-- ---- a call
+abbrev pub decisionOn : Network → Call → Decided
+decisionOn n (Order order) = orderDecision order (sightOf n (spotsOf order)) (foundOf n order)
+decisionOn n (Deliver place) = deliveryDecision place (arrivalOf n place)
+
+abbrev pub outcome : Network → Decided → Counted
+outcome n d = record { network = committed n (d .change); posted = d .posted; said = d .said }
+
+-- ---- a drain's next delivery
+abbrev pub placeOf : Option ℕ → ℕ
+placeOf none = 0
+placeOf (some place) = place
+
+abbrev pub nextDelivery : Network → Applied
+nextDelivery n = applyOf n (Deliver (placeOf (lowest (live n))))
+
+-- ---- a record as a task
+abbrev pub declaring : Serial → Task
+declaring (serial.Value key) = task.Call (Order (Declare key))
+declaring serial.BadDigit = task.Refuse BadDigit
+declaring serial.TooLarge = task.Refuse SerialTooLarge
+
+abbrev pub taskOf : Record → Task
+taskOf (record′.Call call) = task.Call call
+taskOf (record′.Declare serial) = declaring serial
+taskOf (record′.Owner start serial) = task.Owner start serial
+taskOf (record′.Drain budget) = task.Drain budget
+
+-- what is read; at the end, where nobody asks, it does not matter
+abbrev pub taskRead : Reading → Task
+taskRead reading.End = task.Refuse CutShort
+taskRead (reading.Stopped r) = task.Refuse r
+taskRead (reading.Next asked after) = taskOf asked
+
+-- the cursor after it, in a script of so many bytes
+abbrev pub cursorAfter : ℕ → Reading → ℕ
+cursorAfter size reading.End = size
+cursorAfter size (reading.Stopped r) = size
+cursorAfter size (reading.Next asked after) = after
+
+-- what a task comes to, and what it asks of the network
+abbrev pub doneOn : Network → Task → Applied
+doneOn n (task.Refuse r) = refused n (reason r)
+doneOn n (task.Call call) = applyOf n call
+doneOn n (task.Owner start serial) = performOf n (record′.Owner start serial)
+doneOn n (task.Drain budget) = drainOf n budget
+
+abbrev pub Allowed : Network → Task → Type 0
+Allowed n (task.Refuse r) = Unit {0}
+Allowed n (task.Call call) = wellFormed n ≡ true
+Allowed n (task.Owner start serial) = wellFormed n ≡ true
+Allowed n (task.Drain budget) = wellFormed n ≡ true
+
+-- what a script's bytes at a cursor ask: at the end, where nobody asks, nothing is said of it
+abbrev pub Asks : ℕ → Read → Asked → Type 0
+Asks size end a = Unit {0}
+Asks size (stop q) a = (r : Refusal) × (a .task ≡ task.Refuse r) × (reason r ≡ q) × (a .after ≡ size)
+Asks size (next asked after) a = (a .task ≡ taskOf asked) × (a .after ≡ after)

@@ -1,0 +1,154 @@
+// Calls and drains by value, past the test of the network.
+ghost use mathlib.Core.Path.{_≡_};
+ghost use mathlib.Core.Bool.{true, _&&_};
+ghost use mathlib.Core.Option.{some};
+ghost use Prim.Native.Nat.{_+_, _<_};
+ghost use lib.Dec.{ltb};
+ghost use Rattle.refusal.specs.Code.{reason};
+ghost use Rattle.refusal.specs.Rules.{done};
+ghost use Rattle.protocol.specs.declared.Call.the-variants.{Deliver};
+ghost use Rattle.protocol.specs.declared.Reply.the-variants.{Ran};
+ghost use Rattle.protocol.specs.Answer.{answered, accepted};
+ghost use Rattle.protocol.specs.Calls.{applyOf as applyToLists};
+ghost use Rattle.protocol.specs.Drain.{lowest};
+ghost use Rattle.network.specs.Arrays.{live, wellFormed};
+ghost use Rattle.decision.specs.Decisions.{decided};
+ghost use Rattle.engine.specs.Outcomes.{called, counted, refused, applyOf, drainOf};
+ghost use Rattle.engine.specs.Computed.{decisionOn};
+use crate::Called;
+use decision::Decision;
+use decision::Report;
+use network::Network;
+use network::QUEUE_LIMIT;
+use protocol::Answer;
+use protocol::Call;
+use protocol::Reply;
+use refusal::Refusal;
+
+pub(crate) fn refuse(network: Network, refusal: Refusal) -> Called
+    ensures { λ r. ⌜ called r ≡ counted (refused network (reason refusal)) ⌝ }
+{
+    Called {
+        network,
+        report: Report {
+            answer: Answer::Refused(refusal),
+            posted: 0,
+        },
+    }
+}
+
+// What a call comes to, from what it looks at.
+fn decide(network: Network, call: Call) -> Decision
+    ensures { λ r. ⌜ decided r ≡ decisionOn network call ⌝ }
+{
+    match call {
+        Call::Order(order) => {
+            let sight = access::seen(network, decision::spots(order));
+            decision::decide_order(order, sight, access::searched(network, order))
+        }
+        Call::Deliver(place) => decision::decide_delivery(place, access::met(network, place)),
+    }
+}
+
+pub(crate) fn apply(network: Network, call: Call) -> Called
+    requires { ⌜ wellFormed network ≡ true ⌝ }
+    ensures { λ r. ⌜ called r ≡ counted (applyOf network call) ⌝ }
+{
+    let decision = decide(network, call);
+    let change = decision.change;
+    let report = decision.report;
+    Called {
+        network: access::committed(network, change),
+        report,
+    }
+}
+
+// Whether a delivery at a place where a message waits is not refused: only a full queue has no room for what a granted request posts.
+fn delivers(network: Network, place: u8) -> bool
+    requires { ⌜ (wellFormed network ≡ true) × (place < network .waiting) ⌝ }
+    ensures { λ r. ⌜ r ≡ accepted (applyToLists (live network) (Deliver place) .said) ⌝ }
+{
+    let arrival = access::met(network, place);
+    let node = arrival.node;
+    let message = arrival.message;
+    let kind = message.kind;
+    (network.waiting < QUEUE_LIMIT) | !node.would_grant(message.sender, kind)
+}
+
+// The lowest place where a delivery is not refused.
+pub(crate) fn lowest(network: Network) -> u8
+    requires { ⌜ (wellFormed network ≡ true) × (0 < network .waiting) ⌝ }
+    ensures { λ r. ⌜ lowest (live network) ≡ some r ⌝ }
+{
+    let mut place: u8 = 0;
+    while place < network.waiting {
+        if delivers(network, place) {
+            return place;
+        }
+        place += 1;
+    }
+    0
+}
+
+// What a drain has done so far: the deliveries made, and the messages that they posted.
+pub(crate) struct Tally {
+    made: u16,
+    posted: u32,
+}
+
+pub(crate) fn no_tally() -> Tally
+    ensures { λ r. ⌜ r ≡ record { made = 0; posted = 0 } ⌝ }
+{
+    Tally { made: 0, posted: 0 }
+}
+
+// Whether a drain goes on, with so many messages waiting.
+pub(crate) fn goes_on(tally: Tally, budget: u16, waiting: u8) -> bool
+    ensures { λ r. ⌜ r ≡ (ltb (tally .made) budget && ltb 0 waiting) ⌝ }
+{
+    (tally.made < budget) & (0 < waiting)
+}
+
+// One delivery more.
+pub(crate) fn tallied(tally: Tally, posted: u32) -> Tally
+    requires { ⌜ (tally .made < 65_535) × (tally .posted + posted < 4_294_967_296) ⌝ }
+    ensures { λ r. ⌜ r ≡ record { made = tally .made + 1; posted = tally .posted + posted } ⌝ }
+{
+    Tally {
+        made: tally.made + 1,
+        posted: tally.posted + posted,
+    }
+}
+
+pub(crate) fn ran(tally: Tally, left: u8) -> Report
+    ensures { λ r. ⌜ (answered (r .answer) ≡ done (Ran (tally .made) left)) × (r .posted ≡ tally .posted) ⌝ }
+{
+    Report {
+        answer: Answer::Done(Reply::Ran {
+            made: tally.made,
+            left,
+        }),
+        posted: tally.posted,
+    }
+}
+
+// Deliveries, each at the lowest place where one is not refused, until nothing waits or the budget is spent.
+pub(crate) fn drain(network: Network, budget: u16) -> Called
+    requires { ⌜ wellFormed network ≡ true ⌝ }
+    ensures { λ r. ⌜ called r ≡ counted (drainOf network budget) ⌝ }
+{
+    let mut n = network;
+    let mut tally = Tally { made: 0, posted: 0 };
+    while goes_on(tally, budget, n.waiting) {
+        let place = lowest(n);
+        let called = apply(n, Call::Deliver(place));
+        let next = called.network;
+        let report = called.report;
+        n = next;
+        tally = tallied(tally, report.posted);
+    }
+    Called {
+        network: n,
+        report: ran(tally, n.waiting),
+    }
+}

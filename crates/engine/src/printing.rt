@@ -1,0 +1,157 @@
+// A script from its bytes to its printout: the records one after the other from the empty network, which is kept in a local and changed where it
+// lies, a line for each. `step` has a reference to what is kept and `run` makes it; these two are walked by hand. The printout grows in a buffer
+// that no script fills: a record has three bytes at least, and its line has forty at most.
+ghost use Prim.Native.Nat.{_+_, _≤_, _<_};
+ghost use Rattle.io.specs.Counts.{Counts};
+ghost use Rattle.network.specs.Arrays.{empty, wellFormed};
+ghost use Rattle.refusal.specs.Code.{Reason};
+ghost use Rattle.refusal.specs.Rules.{no};
+ghost use Rattle.protocol.specs.Answer.{answered};
+ghost use Rattle.printout.specs.Lines.{heading, lineOf, lastLine};
+ghost use Rattle.engine.specs.Reached.{reached, refusalIn};
+ghost use Rattle.course.specs.Run.{stepOf, after, closed, sizeLimit, tooLong, printoutOf};
+ghost use lib.ListN.{length, take};
+ghost use mathlib.Core.Bool.{true};
+ghost use mathlib.Core.List.{_++_};
+ghost use mathlib.Core.Path.{_≡_};
+use crate::in_place;
+use crate::tasks;
+use decision::Report;
+use network::Network;
+use protocol::Answer;
+use refusal::Refusal;
+
+// "A script is at most 65,536 bytes."
+pub const SIZE_LIMIT: usize = 65_536;
+
+// What a run keeps from record to record.
+struct Kept {
+    network: Network,
+}
+
+// How far a run has come beside that: the cursor, the ordinal of the last record, all messages posted, and the bytes printed.
+struct Progress {
+    at: usize,
+    ordinal: u32,
+    posted: u32,
+    used: usize,
+}
+
+fn nothing_kept() -> Kept
+    ensures { λ r. ⌜ r .network ≡ empty ⌝ }
+{
+    Kept {
+        network: Network::empty(),
+    }
+}
+
+// The refusal in an answer; of one that is done it is not asked for.
+fn refusal_in(answer: Answer) -> Refusal
+    ensures { λ r. ⌜ r ≡ refusalIn answer ⌝ }
+{
+    match answer {
+        Answer::Done(_) => Refusal::Malformed,
+        Answer::Refused(refusal) => refusal,
+    }
+}
+
+fn put_last(text: &mut [u8], at: usize, waiting: u8, posted: u32) -> usize
+    requires { ⌜ at + 40 ≤ length (now text) ⌝ }
+    ensures { λ r. ⌜ take r (now (text .exit)) ≡ take at (now (text .entry)) ++ lastLine waiting posted ⌝ }
+    ensures { λ r. ⌜ r ≤ at + 40 ⌝ }
+{
+    printout::last_line(text, at, waiting, posted)
+}
+
+// A record is left with its line printed and the cursor past it; at once where it is refused, since it then has posted nothing.
+fn leave_record(text: &mut [u8; 1048576], p: Progress, after: usize, report: Report) -> Progress
+    requires { ⌜ (p .used + 40 ≤ 1_048_576) × (p .ordinal < 100_000) × (p .posted < 100_000_000) × (report .posted ≤ 384) × ((r : Reason) → answered (report .answer) ≡ no r → report .posted ≡ 0) ⌝ }
+    ensures { λ r. ⌜ (r .at ≡ after) × (r .ordinal ≡ p .ordinal + 1) × (r .posted ≡ p .posted + report .posted)
+        × (take (r .used) (now (text .exit)) ≡ take (p .used) (now (text .entry)) ++ lineOf (p .ordinal + 1) (answered (report .answer))) × (r .used ≤ p .used + 40) ⌝ }
+{
+    let ordinal = p.ordinal + 1;
+    let answer = report.answer;
+    let Answer::Done(reply) = answer else {
+        let used = printout::refusal_line(text, p.used, ordinal, refusal_in(answer));
+        return Progress {
+            at: after,
+            ordinal,
+            posted: p.posted,
+            used,
+        };
+    };
+    let used = printout::reply_line(text, p.used, ordinal, reply);
+    Progress {
+        at: after,
+        ordinal,
+        posted: p.posted + report.posted,
+        used,
+    }
+}
+
+// One more record, where one begins: what it asks is done on the network where it lies, and its line is printed.
+fn step(kept: &mut Kept, script: &[u8], text: &mut [u8; 1048576], p: Progress) -> Progress
+    requires { ⌜ (wellFormed (now kept .network) ≡ true) × (p .at < length (now script)) × (p .used + 40 ≤ 1_048_576) × (p .ordinal < 100_000) × (p .posted < 100_000_000) ⌝ }
+    ensures { λ r. ⌜ (reached (now (kept .exit) .network) r (now (text .exit)) ≡ stepOf (now (script .entry)) (reached (now (kept .entry) .network) p (now (text .entry))))
+        × (wellFormed (now (kept .exit) .network) ≡ true) × (r .used ≤ p .used + 40) ⌝ }
+{
+    let at = p.at;
+    let asked = tasks::ask(script, at);
+    let task = asked.task;
+    let report = in_place::perform(&mut kept.network, task);
+    let after = asked.after;
+    leave_record(text, p, after, report)
+}
+
+// The last line, after all the records.
+fn finish(text: &mut [u8; 1048576], kept: Kept, p: Progress) -> usize
+    requires { ⌜ p .used + 40 ≤ 1_048_576 ⌝ }
+    ensures { λ r. ⌜ (take r (now (text .exit)) ≡ take (p .used) (now (text .entry)) ++ lastLine (kept .network .waiting) (p .posted))
+        × (r ≤ p .used + 40) × (1_048_576 ≡ length (now (text .exit))) ⌝ }
+{
+    let network = kept.network;
+    put_last(text, p.used, network.waiting, p.posted)
+}
+
+// The records of a script one after the other on one network, after the heading, and the last line.
+fn run(script: &[u8], text: &mut [u8; 1048576], start: usize) -> usize
+    requires { ⌜ (take start (now text) ≡ heading) × (start ≤ 40) × (length (now script) ≤ sizeLimit) ⌝ }
+    ensures { λ r. ⌜ (take r (now (text .exit)) ≡ closed (after (now (script .entry)) (length (now (script .entry)))))
+        × (r ≤ 1_000_000) × (1_048_576 ≡ length (now (text .exit))) ⌝ }
+{
+    let mut kept = nothing_kept();
+    let mut p = Progress {
+        at: 0,
+        ordinal: 0,
+        posted: 0,
+        used: start,
+    };
+    while p.at < script.len() {
+        p = step(&mut kept, script, text, p);
+    }
+    finish(text, kept, p)
+}
+
+// A script that is too long is refused as a whole.
+fn refuse_script(text: &mut [u8], start: usize) -> usize
+    requires { ⌜ (take start (now text) ≡ heading) × (start ≤ 40) × (1_000_000 ≤ length (now text)) ⌝ }
+    ensures { λ r. ⌜ take r (now (text .exit)) ≡ tooLong ⌝ }
+    ensures { λ r. ⌜ r ≤ 1_000_000 ⌝ }
+{
+    let used = printout::refusal_line(text, start, 0, Refusal::ScriptTooLong);
+    put_last(text, used, 0, 0)
+}
+
+// The printout of a whole script, and how many bytes it has. No printout is longer than the buffer; what stands in the buffer past the
+// printout is left open.
+pub fn printout(script: &[u8], text: &mut [u8; 1048576]) -> usize
+    ensures { λ r. ⌜ Counts r (now (text .exit)) ⌝ }
+    ensures { λ r. ⌜ take r (now (text .exit)) ≡ printoutOf (now (script .entry)) ⌝ }
+{
+    let start = text::append(text, 0, b"ring 1\n");
+    if SIZE_LIMIT < script.len() {
+        refuse_script(text, start)
+    } else {
+        run(script, text, start)
+    }
+}

@@ -1,0 +1,34 @@
+// What any network is asked without being changed: who is inserted, and which node owns a serial.
+ghost use mathlib.Core.Path.{_≡_};
+ghost use Rattle.protocol.specs.Answer.{answered};
+ghost use Rattle.engine.specs.Answers.{insertedOf, ownerOf};
+use crate::tasks;
+use network::Network;
+use protocol::Answer;
+use protocol::Reply;
+use refusal::Refusal;
+
+// Who is inserted: one word, bit n for node n, and how many they are.
+pub fn inserted(network: Network) -> Answer
+    ensures { λ r. ⌜ answered r ≡ insertedOf network ⌝ }
+{
+    if !network.is_well_formed() {
+        return Answer::Refused(Refusal::Malformed);
+    }
+    let word = members::word(network);
+    Answer::Done(Reply::Inserted {
+        word,
+        size: u32::count_ones(word),
+    })
+}
+
+// The owner of a serial from a start, in any network.
+pub fn owner(network: Network, start: u8, serial: u32) -> Answer
+    ensures { λ r. ⌜ answered r ≡ ownerOf network start serial ⌝ }
+{
+    if network.is_well_formed() {
+        tasks::owner(network, start, serial)
+    } else {
+        Answer::Refused(Refusal::Malformed)
+    }
+}

@@ -1,0 +1,3 @@
+pub mod MemberLaws
+pub mod QuestionLaws
+pub mod TurnLaws

@@ -1,0 +1,49 @@
+-- The rules of a question, by what the arrays of a well-formed network are asked: who is inserted, with the number of the word's ones, and what
+-- each rule of the owner refuses, in their order, before the walk. Assumes nothing.
+use mathlib.Core.Path.{_≡_, sym, ap, _∙_}
+use mathlib.Core.Bool.{true, false}
+use Prim.Native.Nat.{ℕ, _≤_, _<_}
+use lib.ListN.{length}
+use lib.Count.{ones}
+use borrow.Author.Tests.{lt-ltb, le-ltb}
+use Rattle.truth.proofs.WordLaws.{word-ones}
+use Rattle.refusal.specs.Code.{plain}
+use Rattle.refusal.specs.Rules.{Coded, done, no as refusal}
+use Rattle.serial.specs.Serial.{inRange}
+use Rattle.protocol.specs.declared.Reply.{Reply}
+use Rattle.protocol.specs.declared.Reply.the-variants.{Inserted}
+use Rattle.protocol.specs.State.{declared, inserted}
+use Rattle.protocol.specs.Questions.{walked, insertedOf, ownerOf}
+use Rattle.network.specs.declared.Network.{Network}
+use Rattle.network.specs.Arrays.{live, wellFormed}
+use Rattle.network.proofs.Lengths.{Lengths}
+use Rattle.network.proofs.ArrayLaws.{formed}
+use Rattle.network.proofs.LiveLaws.{nodes-length}
+use Rattle.members.specs.Members.{memberIn, wordOf, walkFrom}
+use Rattle.members.proofs.MemberLaws.{member-live, word-live, walk-live}
+
+module _ (n : Network) (l : Lengths n) (h : wellFormed n ≡ true) where
+  pub inserted-told : _≡_ {A = Coded Reply} (done (Inserted (wordOf n) (ones (wordOf n)))) (insertedOf (live n))
+  unfolding insertedOf
+  inserted-told = rw (formed n h .lists, word-live n l h, word-ones (length (live n .nodes)) (inserted (live n)))
+
+  module _ (start serial : ℕ) where
+    pub start-undeclared : n .count ≤ start → ownerOf (live n) start serial ≡ refusal (plain 5)
+    unfolding ownerOf
+    start-undeclared k = rw (formed n h .lists, nodes-length n l h, le-ltb start (n .count) k)
+
+    module _ (k : start < n .count) where
+      declared-start : declared (live n) start ≡ true
+      declared-start = rw (nodes-length n l h) (lt-ltb start (n .count) k)
+
+      pub serial-too-large : inRange serial ≡ false → ownerOf (live n) start serial ≡ refusal (plain 4)
+      unfolding ownerOf
+      serial-too-large e = rw (formed n h .lists, declared-start, e)
+
+      pub start-not-inserted : inRange serial ≡ true → memberIn n start ≡ false → ownerOf (live n) start serial ≡ refusal (plain 30)
+      unfolding ownerOf
+      start-not-inserted e f = rw (formed n h .lists, declared-start, e, sym (member-live n l h start k) ∙ f)
+
+      pub owner-walked : inRange serial ≡ true → memberIn n start ≡ true → ownerOf (live n) start serial ≡ walked (walkFrom n serial (n .count) start 0)
+      unfolding ownerOf
+      owner-walked e f = rw (formed n h .lists, declared-start, e, sym (member-live n l h start k) ∙ f) (ap walked (sym (walk-live n l h serial start k)))

@@ -1,0 +1,33 @@
+-- No rules stand here: it is what the code computes on a network's arrays, for every network, where it is asked who is inserted and which node
+-- owns a serial. What this comes to on the lists of a well-formed network is proved in `proofs/`. Definitions only.
+use Prim.Native.Nat.{ℕ, zero, suc}
+use mathlib.Core.Bool.{Bool, cond}
+use lib.ListN.{take}
+use Rattle.truth.specs.Tests.{any, wordBelow}
+use Rattle.interval.specs.Interval.{within}
+use Rattle.node.specs.declared.Link.{Link}
+use Rattle.node.specs.declared.Link.the-variants.{Unlinked, To}
+use Rattle.node.specs.Shape.{capacity}
+use Rattle.protocol.specs.State.{queueLimit, isAckTo, isInserted}
+use Rattle.protocol.specs.Questions.{Walk, found, lost}
+use Rattle.network.specs.declared.Network.{Network}
+use Rattle.access.specs.Sights.{nodeIn, least}
+
+-- ---- who is inserted
+abbrev pub ackWaits : Network → ℕ → Bool
+ackWaits n u = any (isAckTo u) (take (least (n .waiting) queueLimit) (n .messages))
+
+abbrev pub memberIn : Network → ℕ → Bool
+memberIn n u = isInserted (nodeIn n u .status) (ackWaits n u)
+
+abbrev pub wordOf : Network → ℕ
+wordOf n = wordBelow (least (n .count) capacity) (memberIn n)
+
+-- ---- the walk to an owner: at node u, after some hops, by its right link; and with so many hops left to make
+abbrev pub walkAt : Network → ℕ → ℕ → ℕ → Link → (ℕ → Walk) → Walk
+walkAt n serial u hops Unlinked beyond = lost
+walkAt n serial u hops (To q) beyond = cond (within (nodeIn n u .key) (nodeIn n q .key) serial) (found u hops) (beyond q)
+
+abbrev pub walkFrom : Network → ℕ → ℕ → ℕ → ℕ → Walk
+walkFrom n serial zero u hops = lost
+walkFrom n serial (suc left) u hops = walkAt n serial u hops (nodeIn n u .right) (λ q. walkFrom n serial left q (suc hops))

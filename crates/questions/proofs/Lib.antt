@@ -1,3 +1,0 @@
-pub mod InsertedLaws
-pub mod OwnerLaws
-pub mod RingLaws

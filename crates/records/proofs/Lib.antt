@@ -1,3 +1,0 @@
-pub mod PerformLaws
-pub mod RecordLaws
-pub mod NeverLaws

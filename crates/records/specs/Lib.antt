@@ -1,3 +1,0 @@
-pub mod Performance
-pub mod InArrays
-pub mod Computed
