@@ -3,6 +3,7 @@
 ghost use Prim.Native.Nat.{_≤_};
 
 mod faults;
+mod in_place;
 mod random;
 mod same;
 
@@ -12,8 +13,8 @@ use protocol::Answer;
 use protocol::Call;
 use protocol::Order;
 
-// By value: five calls, a drain, and the two questions.
-const DOORS: u32 = 8;
+// Five calls and a drain by value, the same in place, and the two questions.
+const DOORS: u32 = 14;
 
 const DRAWN: u32 = 500;
 
@@ -40,24 +41,36 @@ fn refused_call(network: Network, call: Call) -> u32 {
     unchanged(network, engine::apply(network, call))
 }
 
+fn refused_act(network: Network, call: Call) -> u32 {
+    unchanged(network, in_place::act(network, call))
+}
+
+// One call, by value and in place.
+fn refused_twice(network: Network, call: Call) -> u32
+    ensures { λ r. ⌜ r ≤ 2 ⌝ }
+{
+    few(refused_call(network, call)) + few(refused_act(network, call))
+}
+
 // How many of the doors answer 6 and leave the network as it was.
 fn refused(network: Network) -> u32
-    ensures { λ r. ⌜ r ≤ 8 ⌝ }
+    ensures { λ r. ⌜ r ≤ 14 ⌝ }
 {
-    let calls = few(refused_call(network, Call::Order(Order::Declare(5_000))))
-        + few(refused_call(network, Call::Order(Order::Create(0))))
-        + few(refused_call(
+    let calls = refused_twice(network, Call::Order(Order::Declare(5_000)))
+        + refused_twice(network, Call::Order(Order::Create(0)))
+        + refused_twice(
             network,
             Call::Order(Order::Join {
                 node: 1,
                 left: 0,
                 right: 0,
             }),
-        ))
-        + few(refused_call(network, Call::Order(Order::Leave(0))))
-        + few(refused_call(network, Call::Deliver(0)));
+        )
+        + refused_twice(network, Call::Order(Order::Leave(0)))
+        + refused_twice(network, Call::Deliver(0));
     calls
         + few(unchanged(network, engine::drain(network, 9)))
+        + few(unchanged(network, in_place::drain(network, 9)))
         + few(one_if(is_six(engine::inserted(network))))
         + few(one_if(is_six(engine::owner(network, 0, 1_500))))
 }
