@@ -10,3 +10,4 @@ pub mod Places
 pub mod Calling
 pub mod Lending
 pub mod Reading
+pub mod Variants

@@ -43,13 +43,16 @@ use Rattle.network.proofs.ArrayLaws.{formed, held-live}
 use Rattle.network.proofs.LiveLaws.{nodes-length, messages-length, node-live}
 use Rattle.access.specs.declared.Arrival.{Arrival}
 use Rattle.access.specs.declared.Found.{Found}
-use Rattle.access.specs.Changes.{placed, added, closed, allPosted, adds, steps, delivers, committed}
+use Rattle.access.specs.declared.Change.{Change}
+use Rattle.access.specs.Changes.{placed, added, closed, allPosted, adds, steps, delivers, written, committed}
 use Rattle.access.specs.Sights.{nodeIn, messageIn, sightOf, arrivalOf, least, keyIsTaken as keyIsTakenIn, someStands, noticeWaits as noticeWaitsIn}
 use Rattle.access.proofs.Shift.{length-without}
 use Rattle.access.proofs.Stores.{added-held, closed-held, stepped-held}
-use Rattle.decision.specs.Decisions.{Decided, spotsOf, turnedAway, adding, stepping, delivering, afterStep, roomTests, unless, declareTests, createTests, joinStep, joinTests, leaveTests, receiveStep, deliverTests}
-use Rattle.engine.specs.Outcomes.{Counted, counted, refused, inArrays, applyOf}
-use Rattle.engine.specs.Computed.{decisionOn, outcome}
+use Rattle.decision.specs.declared.Decision.{Decision}
+use Rattle.decision.specs.declared.Report.{Report}
+use Rattle.decision.specs.Decisions.{Decided, decided as decidedBy, decisionOn, spotsOf, turnedAway, adding, stepping, delivering, afterStep, roomTests, unless, declareTests, createTests, joinStep, joinTests, leaveTests, receiveStep, deliverTests}
+use Rattle.engine.specs.Outcomes.{Counted, counted, reported, refused, inArrays, applyOf}
+use Rattle.engine.specs.Computed.{outcome}
 use Rattle.engine.proofs.RunLaws.{refused-here}
 use Rattle.engine.proofs.StepLaws.{create-posts, join-says, leave-says, deliver-says}
 
@@ -189,12 +192,14 @@ module _ (n : Network) (l : Lengths n) (h : wellFormed n ≡ true) where
 
   -- ---- each call
   decides-declare : (key : ℕ) → outcome n (decisionOn n (Order (Declare key))) ≡ counted (applyOf n (Order (Declare key)))
+  unfolding decisionOn
   decides-declare key =
       settles (Order (Declare key)) (first (declareTests key (n .count) (keyIsTakenIn n key))) (adding (n .count) key)
       (rw lists-tested (λ i. cond (not (inRange key)) (some (plain 4)) (cond (not (ltb (sym (nodes-length n l h) i) capacity)) (some (plain 20)) (cond (taken-read key i) (some (plain 21)) none))))
       (λ clear. let (_, (room, _)) = cleared (declareTests key (n .count) (keyIsTakenIn n key)) clear in adds-outcome key (tested-below (n .count) capacity room))
 
   decides-create : (u : ℕ) → outcome n (decisionOn n (Order (Create u))) ≡ counted (applyOf n (Order (Create u)))
+  unfolding decisionOn
   decides-create u =
       let found : Found = record { taken = false; standing = someStands n; notice = noticeWaitsIn n u } in
       settles (Order (Create u)) (unless (ltb u (n .count)) (first (createTests found))) (stepping u (createOf u (nodeIn n u)))
@@ -247,6 +252,7 @@ module _ (n : Network) (l : Lengths n) (h : wellFormed n ≡ true) where
         absent f = sym (rw lists-tested (some-undeclared (declared (live n) u) (declared (live n) p) (declared (live n) q) _ (rw (sym (nodes-length n l h)) at f)))
 
     decides-join : outcome n (decisionOn n (Order (Join u p q))) ≡ counted (applyOf n (Order (Join u p q)))
+    unfolding decisionOn
     decides-join =
         settles (Order (Join u p q)) (unless all-known (afterStep (joined .said) (first rest))) (stepping u joined) join-tests
         (λ clear.
@@ -273,6 +279,7 @@ module _ (n : Network) (l : Lengths n) (h : wellFormed n ≡ true) where
         absent f = simp (lists-tested, sym (declared-read u) ∙ f)
 
     decides-leave : outcome n (decisionOn n (Order (Leave u))) ≡ counted (applyOf n (Order (Leave u)))
+    unfolding decisionOn
     decides-leave =
         settles (Order (Leave u)) (leaveTests u (n .count) (n .waiting) (nodeIn n u)) (stepping u left) leave-tests
         (λ clear.
@@ -310,6 +317,7 @@ module _ (n : Network) (l : Lengths n) (h : wellFormed n ≡ true) where
             rw f (sym (simp (lists-tested, gone, and-false)))
 
     decides-deliver : outcome n (decisionOn n (Deliver place)) ≡ counted (applyOf n (Deliver place))
+    unfolding decisionOn
     decides-deliver =
         settles (Deliver place) (first (deliverTests place arrival)) (delivering place (arrival .message .to) received) deliver-tests
         (λ clear.
@@ -326,6 +334,11 @@ module _ (n : Network) (l : Lengths n) (h : wellFormed n ≡ true) where
   decides (Order (Join u p q)) = decides-join u p q
   decides (Order (Leave u)) = decides-leave u
   decides (Deliver place) = decides-deliver place
+
+  -- the change of a decision carried out, and its report
+  pub acted : (call : Call) (d : Decision) (x : Change) (r : Report) → decidedBy d ≡ decisionOn n call → x ≡ d .change → r ≡ d .report
+      → reported (committed n (written x)) r ≡ counted (applyOf n call)
+  acted call d x r says at tells = (λ i. reported (committed n (written (at i))) (tells i)) ∙ ap (outcome n) says ∙ decides call
 
   -- ---- a delivery where a message waits is refused only where the queue is full and the message would be granted
   module _ (place : ℕ) (there : place < n .waiting) where

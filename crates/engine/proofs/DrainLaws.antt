@@ -121,16 +121,16 @@ module _ {start : Network} {budget : ℕ} {n : Network} {made posted : ℕ} (u :
           posts = rw lists (omega (arith, u .posts, ap (λ l. length (postsOfAll (live n) l)) head, came .1, length-append sent (postsOfAll next (places (budget - (made + 1)) next))));
         }
 
-  -- the next delivery, of p messages, which leaves n′
-  module _ (p : ℕ) (n′ : Network) (goes : (ltb made budget && ltb 0 (n .waiting)) ≡ true) (e : (n′ ≡ nextDelivery n .network) × (p ≡ length (nextDelivery n .posts))) where
+  -- the next delivery, and what it comes to
+  module _ (x : Counted) (goes : (ltb made budget && ltb 0 (n .waiting)) ≡ true) (e : x ≡ counted (nextDelivery n)) where
     place : lowest (live n) ≡ some (placeOf (lowest (live n)))
     place = next-place n (u .arrays) (u .well-formed) (ltb-true 0 (n .waiting) (both (ltb made budget) _ goes .1))
 
-    pub next-fits : budget < 2 ^ 16 → (made < 65_535) × (posted + p < 4_294_967_296)
-    next-fits small = rw (e .1) (tally-fits (placeOf (lowest (live n))) (counted (nextDelivery n)) goes place refl small)
+    pub next-fits : budget < 2 ^ 16 → (made < 65_535) × (posted + x .posted < 4_294_967_296)
+    next-fits small = tally-fits (placeOf (lowest (live n))) x goes place e small
 
-    pub next-goes-on : Underway start budget n′ (made + 1) (posted + p)
-    next-goes-on = rw (e .0, e .1) (goes-on (placeOf (lowest (live n))) (counted (nextDelivery n)) goes place refl)
+    pub next-goes-on : Underway start budget (x .network) (made + 1) (posted + x .posted)
+    next-goes-on = goes-on (placeOf (lowest (live n))) x goes place e
 
   -- nothing more to be delivered
   finished : wellFormed start ≡ true → places (budget - made) (live n) ≡ []

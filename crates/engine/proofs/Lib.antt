@@ -10,6 +10,5 @@ pub mod TaskLaws
 pub mod StepOfScript
 pub mod LoopLaws
 pub mod Values
-pub mod Variants
 pub mod TaskValues
 pub mod Doors

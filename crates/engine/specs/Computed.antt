@@ -1,4 +1,4 @@
--- No rules stand here: it is what the code computes on its way, a decision from what a call looks at, the decision carried out, the next delivery of
+-- No rules stand here: it is what the code computes on its way, a decision carried out, the next delivery of
 -- a drain, and a record as a task. That this is what the rules say of a well-formed network is proved in `proofs/`. Definitions only.
 use Prim.Native.Nat.{ℕ}
 use mathlib.Core.Path.{_≡_}
@@ -10,14 +10,12 @@ use Rattle.refusal.specs.Code.{reason}
 use Rattle.serial.specs.declared.Serial.{Serial}
 use Rattle.serial.specs.declared.Serial.the-variants as serial
 use Rattle.protocol.specs.declared.Order.the-variants.{Declare}
-use Rattle.protocol.specs.declared.Call.{Call}
 use Rattle.protocol.specs.declared.Call.the-variants.{Order, Deliver}
 use Rattle.protocol.specs.Drain.{lowest}
 use Rattle.network.specs.declared.Network.{Network}
 use Rattle.network.specs.Arrays.{live, wellFormed}
 use Rattle.access.specs.Changes.{committed}
-use Rattle.access.specs.Sights.{sightOf, arrivalOf, foundOf}
-use Rattle.decision.specs.Decisions.{Decided, spotsOf, orderDecision, deliveryDecision}
+use Rattle.decision.specs.Decisions.{Decided}
 use Rattle.script.specs.declared.Record.{Record}
 use Rattle.script.specs.declared.Record.the-variants as record′
 use Rattle.script.specs.declared.Reading.{Reading}
@@ -30,10 +28,6 @@ use Rattle.engine.specs.Outcomes.{Applied, refused, Counted, applyOf, dr
 use Rattle.engine.specs.InArrays.{performOf}
 
 -- ---- a call
-abbrev pub decisionOn : Network → Call → Decided
-decisionOn n (Order order) = orderDecision order (sightOf n (spotsOf order)) (foundOf n order)
-decisionOn n (Deliver place) = deliveryDecision place (arrivalOf n place)
-
 abbrev pub outcome : Network → Decided → Counted
 outcome n d = record { network = committed n (d .change); posted = d .posted; said = d .said }
 

@@ -12,10 +12,9 @@ ghost use Rattle.protocol.specs.Answer.{answered, accepted};
 ghost use Rattle.protocol.specs.Calls.{applyOf as applyToLists};
 ghost use Rattle.protocol.specs.Drain.{lowest};
 ghost use Rattle.network.specs.Arrays.{live, wellFormed};
-ghost use Rattle.decision.specs.Decisions.{decided};
 ghost use Rattle.engine.specs.Outcomes.{called, counted, refused, applyOf, drainOf};
-ghost use Rattle.engine.specs.Computed.{decisionOn};
 use crate::Called;
+use access::Change;
 use decision::Decision;
 use decision::Report;
 use network::Network;
@@ -37,24 +36,24 @@ pub(crate) fn refuse(network: Network, refusal: Refusal) -> Called
     }
 }
 
-// What a call comes to, from what it looks at.
-fn decide(network: Network, call: Call) -> Decision
-    ensures { λ r. ⌜ decided r ≡ decisionOn network call ⌝ }
+// The two parts of a decision. A function that is walked by hand calls these, and reads no field.
+pub(crate) fn change_in(decision: Decision) -> Change
+    ensures { λ r. ⌜ r ≡ decision .change ⌝ }
 {
-    match call {
-        Call::Order(order) => {
-            let sight = access::seen(network, decision::spots(order));
-            decision::decide_order(order, sight, access::searched(network, order))
-        }
-        Call::Deliver(place) => decision::decide_delivery(place, access::met(network, place)),
-    }
+    decision.change
+}
+
+pub(crate) fn report_in(decision: Decision) -> Report
+    ensures { λ r. ⌜ r ≡ decision .report ⌝ }
+{
+    decision.report
 }
 
 pub(crate) fn apply(network: Network, call: Call) -> Called
     requires { ⌜ wellFormed network ≡ true ⌝ }
     ensures { λ r. ⌜ called r ≡ counted (applyOf network call) ⌝ }
 {
-    let decision = decide(network, call);
+    let decision = decision::decide(network, call);
     let change = decision.change;
     let report = decision.report;
     Called {
@@ -110,13 +109,13 @@ pub(crate) fn goes_on(tally: Tally, budget: u16, waiting: u8) -> bool
 }
 
 // One delivery more.
-pub(crate) fn tallied(tally: Tally, posted: u32) -> Tally
-    requires { ⌜ (tally .made < 65_535) × (tally .posted + posted < 4_294_967_296) ⌝ }
-    ensures { λ r. ⌜ r ≡ record { made = tally .made + 1; posted = tally .posted + posted } ⌝ }
+pub(crate) fn tallied(tally: Tally, report: Report) -> Tally
+    requires { ⌜ (tally .made < 65_535) × (tally .posted + report .posted < 4_294_967_296) ⌝ }
+    ensures { λ r. ⌜ r ≡ record { made = tally .made + 1; posted = tally .posted + report .posted } ⌝ }
 {
     Tally {
         made: tally.made + 1,
-        posted: tally.posted + posted,
+        posted: tally.posted + report.posted,
     }
 }
 
@@ -145,7 +144,7 @@ pub(crate) fn drain(network: Network, budget: u16) -> Called
         let next = called.network;
         let report = called.report;
         n = next;
-        tally = tallied(tally, report.posted);
+        tally = tallied(tally, report);
     }
     Called {
         network: n,

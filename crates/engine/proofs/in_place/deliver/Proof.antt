@@ -44,7 +44,7 @@ use Rattle.network.proofs.Walking.{by-cases}
 use Rattle.access.proofs.Locals.{var, sets, lands-in}
 use Rattle.access.proofs.Straight.{branch-to}
 use Rattle.access.proofs.Inside.{look-by}
-use Rattle.access.proofs.Data.{a-byte, a-number}
+use Rattle.access.proofs.Data.{a-byte, a-number, word}
 use Rattle.access.proofs.Frame.{Held, Gives, gives, framed}
 use Rattle.access.proofs.Places.{Known, known, lies, network-typed, whole-shows, waiting-shows}
 use Rattle.access.proofs.Reading.{a-network}
@@ -55,7 +55,7 @@ use Rattle.decision.proofs.Report as report
 use Rattle.decision.proofs.Report.Laws as report-laws
 use Rattle.engine.specs.Outcomes.{Counted, reported, counted, applyOf}
 use Rattle.engine.specs.Computed.{placeOf, nextDelivery}
-use Rattle.engine.proofs.Values.{a-call, a-report, IsOf, call-typed, report-typed}
+use Rattle.decision.proofs.Values.{a-call, a-report, IsOf, call-typed, report-typed}
 use Rattle.network.proofs.Network.Laws as net-laws
 use Rattle.protocol.specs.Drain.{lowest as lowestOf}
 use Rattle.engine.proofs.DrainLaws.{first-is-lowest}
@@ -87,93 +87,80 @@ module _ {M : Type 1} (𝓤 : URA M) (H : Heap 𝓤) (A : Atoms 𝓤) (W : Given
       (λ κs. (c-is, tt)) (λ k. id⊢ 𝓤 _) (λ k r zs. id⊢ 𝓤 _) asks
 
 -- what is told of a delivery at the lowest place
-delivered : (n m : Network) (r : Report) (p : ℕ) → lowestOf (live n) ≡ just p → reported m r ≡ counted (applyOf n (Deliver p))
-    → (m ≡ nextDelivery n .network) × (r .posted ≡ length (nextDelivery n .posts))
-delivered n m r p at e =
-    let f : reported m r ≡ counted (nextDelivery n) = e ∙ sym (ap (λ l. counted (applyOf n (Deliver (placeOf l)))) at) in
-    (ap (λ (x : Counted). x .network) f, ap (λ (x : Counted). x .posted) f)
+delivered : (n m : Network) (r : Report) (p : ℕ) → lowestOf (live n) ≡ just p → reported m r ≡ counted (applyOf n (Deliver p)) → reported m r ≡ counted (nextDelivery n)
+delivered n m r p at e = e ∙ sym (ap (λ l. counted (applyOf n (Deliver (placeOf l)))) at)
 
 -- ---- the walk
 module _ {M : Type 1} (𝓤 : URA M) (H : Heap 𝓤) (A : Atoms 𝓤) (W : Given 𝓤 H A) (at-mem : Memory → SProp 𝓤) (run : Routine → Fun 𝓤) (𝓣 : Tables 𝓤 H)
     (known-act : Triple 𝓤 (𝓣 .C #engine·in-place·act) (Act 𝓤 H A at-mem run))
     (known-lowest : Triple 𝓤 (𝓣 .C #engine·formed·lowest) (Lowest 𝓤 H A at-mem run))
     (κ : Lft) (q : Share) (b o : ℕ) (γ : GName) (n : Network) where
-  abbrev Ends : ℕ → Network → Type 0
-  Ends r m = (m ≡ nextDelivery n .network) × (r ≡ length (nextDelivery n .posts))
+  abbrev Ends : Report → Network → Type 0
+  Ends r m = reported m r ≡ counted (nextDelivery n)
 
   abbrev Post : Val → SProp 𝓤
-  Post = Gives 𝓤 H A (a-number w32 .row) Ends κ q b o γ
+  Post = Gives 𝓤 H A (a-report .row) Ends κ q b o γ
 
   walk : (wellFormed n ≡ true) × (0 < n .waiting) → ent 𝓤 (Held 𝓤 H A κ q b o γ n) (WpFn 𝓤 H (𝓣 .C) (𝓣 .Λ) code.function (vptr b o ∷ []) Post)
   walk asks =
       qed W (‵ (fobs γ (net.the-row .coded .code n)) ∷ ‵ (fbor κ (Body (mem net.the-row) b o γ)) ∷ ‵ (flft κ q) ∷ []) ∵
       enter ! (𝓣 .C) (𝓣 .Λ) code.function (vptr b o ∷ []) _ $
       alloc1 ! (λ l₀. alloc1 ! (λ l₁. alloc1 ! (λ l₂. alloc1 ! (λ l₃. alloc1 ! (λ l₄. alloc1 ! (λ l₅. alloc1 ! (λ l₆. alloc1 ! (λ l₇. alloc1 ! (λ l₈.
-      alloc1 ! (λ l₉. alloc1 ! (λ l₁₀. alloc1 ! (λ l₁₁. alloc0 ! $ params1 ! $
-      pass1 ! (init ! 20 refl (tt, tt)) $ pass0 ! $
-      move ! (24 ∷ 25 ∷ 26 ∷ []) $
+      alloc1 ! (λ l₉. alloc0 ! $ params1 ! $
+      pass1 ! (init ! 16 refl (tt, tt)) $ pass0 ! $
+      move ! (20 ∷ 21 ∷ 22 ∷ []) $
       open-ref ! tt (mem net.the-row) {x = n} {b = b} {o = o} $
       use1 W (given (Known n) (‵ (lies b o n))) (known 𝓤 H A W b o n) $ learn ! (λ k.
-      -- [the network; the open borrow; what is observed; the right to change it; _11 to _0]. _2 = (*_1).waiting, _6 = _2 < 64
-      sets ! 22 refl (of-opd ! (load ! (from ! (hop ! (look ! 24 refl) (fld ! {d = 1154} refl (stop !)))) (look-by ! 0 fullShare (waiting-shows 𝓤 H A W b o n))))
+      -- [the network; the open borrow; what is observed; the right to change it; _9 to _0]. _2 = (*_1).waiting, _4 = _2 < 64
+      sets ! 18 refl (of-opd ! (load ! (from ! (hop ! (look ! 20 refl) (fld ! {d = 1154} refl (stop !)))) (look-by ! 0 fullShare (waiting-shows 𝓤 H A W b o n))))
       (tt, record { fits = k .waiting }) $
-      sets ! 14 refl (bin ! (var ! 22 refl) (lit ! tt) tt) (tt, tt) $
+      sets ! 14 refl (bin ! (var ! 18 refl) (lit ! tt) tt) (tt, tt) $
       by-cases ! (ltb (n .waiting) 64)
-      (λ held. rewrite ! 14 (λ (z : Bool). ‵ (fat fullShare tyBool l₆ 0 (vbool z))) held refl $ branch-to ! 𝓣 true (var ! 14 refl) $
-      -- _7 = addrOf *_1, _8 = Deliver 0, _3 = act(_7, _8), _0 = _3.posted, return
-      sets ! 12 refl (addr ! (from ! (hop ! (look ! 24 refl) (stop !)))) (tt, tt) $
+      (λ held. rewrite ! 14 (λ (z : Bool). ‵ (fat fullShare tyBool l₄ 0 (vbool z))) held refl $ branch-to ! 𝓣 true (var ! 14 refl) $
+      -- _5 = addrOf *_1, _6 = Deliver 0, _0 = act(_5, _6), return
+      sets ! 12 refl (addr ! (from ! (hop ! (look ! 20 refl) (stop !)))) (tt, tt) $
       let c-is = enum.owes call.the-type call-laws.the-laws (Deliver 0) ((refl, lit< tt), tt) in
       sets ! 10 refl (agg ! (and-then ! (lit ! tt) (and-then ! (lit ! tt) (no-more !)))) (call-typed 𝓤 H A W (Deliver 0) c-is) $
       calls-giving ! b o (fmOf 𝓤 H (W .laws) 𝓣) (Act 𝓤 H A at-mem run) known-act a-report (λ r m. reported m r ≡ counted (applyOf n (Deliver 0))) n
       (act-lends 𝓤 H A W at-mem run b o n (Deliver 0) c-is (asks .0)) (λ k. (and-then ! (var ! 13 refl)
       (and-then ! (load ! (from ! (stop !)) (look ! 11 {τ = call-laws.mir} refl)) (no-more !)))) (λ r m r-is e.
-      lands-in ! 20 refl (report-typed 𝓤 H A W r r-is) $
-      let are = struct.owed report.the-type report-laws.the-laws r _ r-is in
-      sets ! 26 refl (of-opd ! (load ! (from ! (fld ! {τ = tyInt w32} {d = 16} refl (stop !)))
-      (look-in ! 20 {τ = tyInt w32} (sub ! 1 {τ = tyInt w32} {d = 16} refl (whole ! {τ = report-laws.mir}))))) (tt, record { fits = are .1 .0 .1 }) $
+      lands-in ! 22 refl (report-typed 𝓤 H A W r r-is) $
       close-ref ! tt (mem net.the-row) m {b = b} {o = o} $
-      returns ! (look ! 25 refl) $
-      forget ! 9 refl $ forget ! 11 refl $ forget ! 13 refl $ forget ! 19 refl $ forget ! 21 refl $ forget ! 23 refl $ forget ! 25 refl $
-      move ! (25 ∷ 26 ∷ []) $ free1 ! $ move ! (23 ∷ 24 ∷ []) $ free1 ! $ move ! (21 ∷ 22 ∷ []) $ free1 ! $ move ! (19 ∷ 20 ∷ []) $ free1 ! $ move ! (17 ∷ 18 ∷ []) $ free1 ! $
-      move ! (15 ∷ 16 ∷ []) $ free1 ! $
-      move ! (13 ∷ 14 ∷ []) $ free1 ! $ move ! (11 ∷ 12 ∷ []) $ free1 ! $ move ! (9 ∷ 10 ∷ []) $ free1 ! $ move ! (7 ∷ 8 ∷ []) $ free1 ! $ move ! (5 ∷ 6 ∷ []) $ free1 ! $
-      move ! (3 ∷ 4 ∷ []) $ free1 ! $ free0 ! $
+      returns ! (look ! 21 refl) $
+      forget ! 9 refl $ forget ! 11 refl $ forget ! 13 refl $ forget ! 17 refl $ forget ! 19 refl $ forget ! 21 refl $
+      move ! (21 ∷ 22 ∷ []) $ free1 ! $ move ! (19 ∷ 20 ∷ []) $ free1 ! $ move ! (17 ∷ 18 ∷ []) $ free1 ! $ move ! (15 ∷ 16 ∷ []) $ free1 ! $ move ! (13 ∷ 14 ∷ []) $ free1 ! $
+      move ! (11 ∷ 12 ∷ []) $ free1 ! $ move ! (9 ∷ 10 ∷ []) $ free1 ! $ move ! (7 ∷ 8 ∷ []) $ free1 ! $ move ! (5 ∷ 6 ∷ []) $ free1 ! $ move ! (3 ∷ 4 ∷ []) $ free1 ! $ free0 ! $
       keep ! (0 ∷ 1 ∷ 2 ∷ []) $
-      by ! (gives 𝓤 H A (a-number w32 .row) Ends κ q b o γ (vint w32 (r .posted)) (r .posted) m (are .1 .0)
+      by ! (gives 𝓤 H A (a-report .row) Ends κ q b o γ (word a-report r) r m r-is
       (delivered n m r 0 (first-is-lowest n (lengths n _ (k .is)) (asks .0) (asks .1) (ltb-true (n .waiting) 64 held)) e))))
-      (λ failed. rewrite ! 14 (λ (z : Bool). ‵ (fat fullShare tyBool l₆ 0 (vbool z))) failed refl $ branch-to ! 𝓣 false (var ! 14 refl) $
-      -- _9 = *_1, _4 = lowest(_9)
-      sets ! 8 refl (of-opd ! (load ! (from ! (hop ! (look ! 24 refl) (stop !))) (look-by ! 0 fullShare (whole-shows 𝓤 H A W b o n)))) (network-typed 𝓤 H A W n (k .is)) $
+      (λ failed. rewrite ! 14 (λ (z : Bool). ‵ (fat fullShare tyBool l₄ 0 (vbool z))) failed refl $ branch-to ! 𝓣 false (var ! 14 refl) $
+      -- _7 = *_1, _3 = lowest(_7)
+      sets ! 8 refl (of-opd ! (load ! (from ! (hop ! (look ! 20 refl) (stop !))) (look-by ! 0 fullShare (whole-shows 𝓤 H A W b o n)))) (network-typed 𝓤 H A W n (k .is)) $
       calls-plain ! (fmOf 𝓤 H (W .laws) 𝓣) (a-network ∷ []) a-byte (lowest.clauses 𝓤 H A at-mem run) known-lowest (n, tt) (k .is, tt)
       tt (factI 𝓤 _ _ asks) (λ r. lowestOf (live n) ≡ just r) (λ r zs. id⊢ 𝓤 _) (and-then ! (load ! (from ! (stop !)) (look ! 9 {τ = net-laws.mir} refl)) (no-more !)) (λ p p-is low.
-      lands-in ! 18 refl (tt, record { fits = p-is .1 }) $
-      -- _10 = addrOf *_1, _11 = Deliver _4, _5 = act(_10, _11), _0 = _5.posted, return
-      sets ! 6 refl (addr ! (from ! (hop ! (look ! 24 refl) (stop !)))) (tt, tt) $
+      lands-in ! 16 refl (tt, record { fits = p-is .1 }) $
+      -- _8 = addrOf *_1, _9 = Deliver _3, _0 = act(_8, _9), return
+      sets ! 6 refl (addr ! (from ! (hop ! (look ! 20 refl) (stop !)))) (tt, tt) $
       let c-is = enum.owes call.the-type call-laws.the-laws (Deliver p) (p-is, tt) in
-      sets ! 4 refl (agg ! (and-then ! (lit ! tt) (and-then ! (var ! 18 refl) (no-more !)))) (call-typed 𝓤 H A W (Deliver p) c-is) $
+      sets ! 4 refl (agg ! (and-then ! (lit ! tt) (and-then ! (var ! 16 refl) (no-more !)))) (call-typed 𝓤 H A W (Deliver p) c-is) $
       calls-giving ! b o (fmOf 𝓤 H (W .laws) 𝓣) (Act 𝓤 H A at-mem run) known-act a-report (λ r m. reported m r ≡ counted (applyOf n (Deliver p))) n
       (act-lends 𝓤 H A W at-mem run b o n (Deliver p) c-is (asks .0)) (λ k. (and-then ! (var ! 7 refl)
       (and-then ! (load ! (from ! (stop !)) (look ! 5 {τ = call-laws.mir} refl)) (no-more !)))) (λ r m r-is e.
-      lands-in ! 16 refl (report-typed 𝓤 H A W r r-is) $
-      let are = struct.owed report.the-type report-laws.the-laws r _ r-is in
-      sets ! 26 refl (of-opd ! (load ! (from ! (fld ! {τ = tyInt w32} {d = 16} refl (stop !)))
-      (look-in ! 16 {τ = tyInt w32} (sub ! 1 {τ = tyInt w32} {d = 16} refl (whole ! {τ = report-laws.mir}))))) (tt, record { fits = are .1 .0 .1 }) $
+      lands-in ! 22 refl (report-typed 𝓤 H A W r r-is) $
       close-ref ! tt (mem net.the-row) m {b = b} {o = o} $
-      returns ! (look ! 25 refl) $
-      forget ! 3 refl $ forget ! 5 refl $ forget ! 7 refl $ forget ! 13 refl $ forget ! 15 refl $ forget ! 17 refl $ forget ! 21 refl $ forget ! 23 refl $ forget ! 25 refl $
-      move ! (25 ∷ 26 ∷ []) $ free1 ! $ move ! (23 ∷ 24 ∷ []) $ free1 ! $ move ! (21 ∷ 22 ∷ []) $ free1 ! $ move ! (19 ∷ 20 ∷ []) $ free1 ! $ move ! (17 ∷ 18 ∷ []) $ free1 ! $
-      move ! (15 ∷ 16 ∷ []) $ free1 ! $
-      move ! (13 ∷ 14 ∷ []) $ free1 ! $ move ! (11 ∷ 12 ∷ []) $ free1 ! $ move ! (9 ∷ 10 ∷ []) $ free1 ! $ move ! (7 ∷ 8 ∷ []) $ free1 ! $ move ! (5 ∷ 6 ∷ []) $ free1 ! $
-      move ! (3 ∷ 4 ∷ []) $ free1 ! $ free0 ! $
+      returns ! (look ! 21 refl) $
+      forget ! 3 refl $ forget ! 5 refl $ forget ! 7 refl $ forget ! 13 refl $ forget ! 15 refl $ forget ! 17 refl $ forget ! 19 refl $ forget ! 21 refl $
+      move ! (21 ∷ 22 ∷ []) $ free1 ! $ move ! (19 ∷ 20 ∷ []) $ free1 ! $ move ! (17 ∷ 18 ∷ []) $ free1 ! $ move ! (15 ∷ 16 ∷ []) $ free1 ! $ move ! (13 ∷ 14 ∷ []) $ free1 ! $
+      move ! (11 ∷ 12 ∷ []) $ free1 ! $ move ! (9 ∷ 10 ∷ []) $ free1 ! $ move ! (7 ∷ 8 ∷ []) $ free1 ! $ move ! (5 ∷ 6 ∷ []) $ free1 ! $ move ! (3 ∷ 4 ∷ []) $ free1 ! $ free0 ! $
       keep ! (0 ∷ 1 ∷ 2 ∷ []) $
-      by ! (gives 𝓤 H A (a-number w32 .row) Ends κ q b o γ (vint w32 (r .posted)) (r .posted) m (are .1 .0) (delivered n m r p low e))))))))))))))))))
+      by ! (gives 𝓤 H A (a-report .row) Ends κ q b o γ (word a-report r) r m r-is (delivered n m r p low e))))))))))))))))
 
 module _ {M : Type 1} (𝓤 : URA M) (H : Heap 𝓤) (A : Atoms 𝓤) (W : Given 𝓤 H A) (at-mem : Memory → SProp 𝓤) (run : Routine → Fun 𝓤) (𝓣 : Tables 𝓤 H)
     (known-act : Triple 𝓤 (𝓣 .C #engine·in-place·act) (Act 𝓤 H A at-mem run))
     (known-lowest : Triple 𝓤 (𝓣 .C #engine·formed·lowest) (Lowest 𝓤 H A at-mem run)) where
   meets : Meets 𝓤 H A this.signature (WpFn 𝓤 H (𝓣 .C) (𝓣 .Λ) code.function) (this.spec 𝓤 H A at-mem run)
-  meets = framed 𝓤 H A W [] (a-number w32) (this.clauses 𝓤 H A at-mem run) (λ κs n a. (wellFormed n ≡ true) × (0 < n .waiting))
-      (λ κs n a r m. (m ≡ nextDelivery n .network) × (r ≡ length (nextDelivery n .posts)))
+  meets = framed 𝓤 H A W [] a-report (this.clauses 𝓤 H A at-mem run) (λ κs n a. (wellFormed n ≡ true) × (0 < n .waiting))
+      (λ κs n a r m. reported m r ≡ counted (nextDelivery n))
       (λ κs x a g. id⊢ 𝓤 _) (λ κs x a g r m. id⊢ 𝓤 _) (WpFn 𝓤 H (𝓣 .C) (𝓣 .Λ) code.function) (WpFn-mono 𝓤 H (W .laws) 𝓣 code.function)
       (λ κ q b o γ n a are asks. walk 𝓤 H A W at-mem run 𝓣 known-act known-lowest κ q b o γ n asks)
 

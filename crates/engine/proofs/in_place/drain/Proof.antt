@@ -47,7 +47,9 @@ use Rattle.decision.specs.declared.Report.{Report}
 use Rattle.engine.specs.declared.formed.Tally.{Tally}
 use Rattle.engine.specs.Outcomes.{reported, counted, drainOf}
 use Rattle.engine.specs.Computed.{nextDelivery}
-use Rattle.engine.proofs.Values.{a-report, a-tally, IsOf, report-typed, tally-typed}
+use Rattle.decision.proofs.Report.Laws as report-laws
+use Rattle.decision.proofs.Values.{a-report, IsOf, report-typed}
+use Rattle.engine.proofs.Values.{a-tally, tally-typed}
 use Rattle.refusal.specs.Rules.{done as done′}
 use Rattle.protocol.specs.declared.Reply.the-variants.{Ran}
 use Rattle.protocol.specs.Answer.{answered}
@@ -97,11 +99,11 @@ module _ {M : Type 1} (𝓤 : URA M) (H : Heap 𝓤) (A : Atoms 𝓤) (at-mem : 
   Ran-so = tripleOf 𝓤 H A ran.signature (ran.spec 𝓤 H A at-mem run)
 
 module _ {M : Type 1} (𝓤 : URA M) (H : Heap 𝓤) (A : Atoms 𝓤) (W : Given 𝓤 H A) (at-mem : Memory → SProp 𝓤) (run : Routine → Fun 𝓤) (b o : ℕ) where
-  abbrev deliver-lends : (n : Network) → (wellFormed n ≡ true) × (0 < n .waiting) → Lends b o 𝓤 H A (a-number w32) (λ r m. (m ≡ nextDelivery n .network) × (r ≡ length (nextDelivery n .posts)))
+  abbrev deliver-lends : (n : Network) → (wellFormed n ≡ true) × (0 < n .waiting) → Lends b o 𝓤 H A a-report (λ r m. reported m r ≡ counted (nextDelivery n))
       (Deliver-one 𝓤 H A at-mem run) n
   deliver-lends n asks =
-      lends 𝓤 H A W [] (a-number w32) (deliver.clauses 𝓤 H A at-mem run) b o n (λ κs. tt) (λ k. tt) ((wellFormed n ≡ true) × (0 < n .waiting))
-      (λ r m. (m ≡ nextDelivery n .network) × (r ≡ length (nextDelivery n .posts))) (λ κs. tt) (λ k. id⊢ 𝓤 _) (λ k r zs. id⊢ 𝓤 _) asks
+      lends 𝓤 H A W [] a-report (deliver.clauses 𝓤 H A at-mem run) b o n (λ κs. tt) (λ k. tt) ((wellFormed n ≡ true) × (0 < n .waiting))
+      (λ r m. reported m r ≡ counted (nextDelivery n)) (λ κs. tt) (λ k. id⊢ 𝓤 _) (λ k r zs. id⊢ 𝓤 _) asks
 
 -- ---- the walk
 module _ {M : Type 1} (𝓤 : URA M) (H : Heap 𝓤) (A : Atoms 𝓤) (W : Given 𝓤 H A) (at-mem : Memory → SProp 𝓤) (run : Routine → Fun 𝓤) (𝓣 : Tables 𝓤 H)
@@ -165,20 +167,21 @@ module _ {M : Type 1} (𝓤 : URA M) (H : Heap 𝓤) (A : Atoms 𝓤) (W : Given
       let goes = sym test ∙ held in
       -- _7 = addrOf *_1, _5 = deliver(_7), _3 = tallied(_3, _5), _4 = (*_1).waiting
       sets ! 6 refl (addr ! (from ! (hop ! (look ! 16 refl) (stop !)))) (tt, tt) $
-      calls-giving ! b o (fmOf 𝓤 H (W .laws) 𝓣) (Deliver-one 𝓤 H A at-mem run) known-deliver (a-number w32) (λ r m″. (m″ ≡ nextDelivery m .network) × (r ≡ length (nextDelivery m .posts))) m
+      calls-giving ! b o (fmOf 𝓤 H (W .laws) 𝓣) (Deliver-one 𝓤 H A at-mem run) known-deliver a-report (λ r m″. reported m″ r ≡ counted (nextDelivery m)) m
       (deliver-lends 𝓤 H A W at-mem run b o m (f .1 .well-formed, ltb-true 0 (m .waiting) (both (ltb (t .made) budget) _ goes .1))) (λ k. (and-then ! (var ! 7 refl) (no-more !)))
       (λ p m′ p-is e.
-      lands-in ! 10 refl (tt, record { fits = p-is .1 }) $
-      calls-plain ! (fmOf 𝓤 H (W .laws) 𝓣) (a-tally ∷ a-number w32 ∷ []) a-tally (tallied.clauses 𝓤 H A at-mem run) known-tallied (t, (p, tt)) (f .2, (p-is, tt))
-      tt (factI 𝓤 _ _ (next-fits (f .1) p m′ goes e (budget-is .1))) (λ r. r ≡ record { made = t .made + 1; posted = t .posted + p }) (λ r zs. id⊢ 𝓤 _)
-      (and-then ! (load ! (from ! (stop !)) (look ! 2 {τ = tally-laws.mir} refl)) (and-then ! (var ! 11 refl) (no-more !))) (λ t′ t′-is told.
+      lands-in ! 10 refl (report-typed 𝓤 H A W p p-is) $
+      calls-plain ! (fmOf 𝓤 H (W .laws) 𝓣) (a-tally ∷ a-report ∷ []) a-tally (tallied.clauses 𝓤 H A at-mem run) known-tallied (t, (p, tt)) (f .2, (p-is, tt))
+      tt (factI 𝓤 _ _ (next-fits (f .1) (reported m′ p) goes e (budget-is .1))) (λ r. r ≡ record { made = t .made + 1; posted = t .posted + p .posted }) (λ r zs. id⊢ 𝓤 _)
+      (and-then ! (load ! (from ! (stop !)) (look ! 2 {τ = tally-laws.mir} refl))
+      (and-then ! (load ! (from ! (stop !)) (look ! 11 {τ = report-laws.mir} refl)) (no-more !))) (λ t′ t′-is told.
       lands-again ! 1 refl (tally-typed 𝓤 H A W t′ t′-is) $
       use1 W (given (Known m′) (‵ (lies b o m′))) (known 𝓤 H A W b o m′) $ learn ! (λ j′.
       assigns-last ! (of-opd ! (load ! (from ! (hop ! (look ! 16 refl) (fld ! {d = 1154} refl (stop !)))) (look-by ! 0 fullShare (waiting-shows 𝓤 H A W b o m′)))) (from ! (stop !))
       (store ! 2 refl (tt, record { fits = j′ .waiting })) $
       forget ! 8 refl $ forget ! 10 refl $ forget ! 6 refl $
       move ! (1 ∷ 2 ∷ 0 ∷ []) $
-      join ! $ move ! (1 ∷ 0 ∷ []) $ join ! $ use1 W (Inv l₃ l₄ (budget - t′ .made)) (into l₃ l₄ (budget - t′ .made) m′ t′ (refl, rw told (next-goes-on (f .1) p m′ goes e), t′-is)) $
+      join ! $ move ! (1 ∷ 0 ∷ []) $ join ! $ use1 W (Inv l₃ l₄ (budget - t′ .made)) (into l₃ l₄ (budget - t′ .made) m′ t′ (refl, rw told (next-goes-on (f .1) (reported m′ p) goes e), t′-is)) $
       turns-on ! (Inv l₃ l₄) (budget - t′ .made) (rw told (omega (arith, f .0, ltb-true (t .made) budget (both (ltb (t .made) budget) _ goes .0))))))))
       (λ failed. rewrite ! 8 (λ (z : Bool). ‵ (fat fullShare tyBool l₆ 0 (vbool z))) failed refl $ leaves-while ! steps.t-4 Post refl (var ! 8 refl) $
       -- the loop is left: _0 = ran(_3, _4), return
