@@ -4,13 +4,13 @@ use mathlib.Core.Path.{_≡_, refl, sym, ap, _∙_}
 use mathlib.Core.Logic.{⊎-elim}
 use mathlib.Core.Bool.{Bool, true, false, not, _&&_, _||_, cond}
 use mathlib.Core.Option.{Option, none, some}
-use mathlib.Core.List.{List, [], _∷_}
-use Prim.Native.Nat.{ℕ, _+_, _-_, _%_, _≤_, _<_}
+use mathlib.Core.List.{List, _∷_}
+use Prim.Native.Nat.{ℕ, _+_, _-_, _≤_, _<_}
 use native.Mathlib.Omega.{arith}
 use native.Mathlib.Nat.{mod-eq-of-lt}
 use lib.ListN.{length, getD, take}
 use lib.Seq.{getD-take}
-use lib.Dec.{leb, ltb, eqb}
+use lib.Dec.{ltb, eqb}
 use borrow.Author.Tests.{leb-true, ltb-true, le-leb, lt-ltb, le-ltb, not-false}
 use Rattle.truth.specs.Tests.{everyBelow, any}
 use Rattle.truth.proofs.Laws.{true-is-not-false, both, and-false}
@@ -21,7 +21,6 @@ use Rattle.refusal.proofs.Laws.{cleared}
 use Rattle.serial.specs.Serial.{inRange}
 use Rattle.node.specs.declared.Node.{Node}
 use Rattle.node.specs.declared.Message.{Message}
-use Rattle.node.specs.declared.Peer.{Peer}
 use Rattle.node.specs.Shape.{declaredOf, capacity}
 use Rattle.node.specs.Tests.{isOut}
 use Rattle.node.specs.Actions.{Effect, createOf, joinOf, leaveOf, actOf, wouldGrant}
@@ -30,7 +29,7 @@ use Rattle.protocol.specs.declared.Order.the-variants.{Declare, Create, Join, L
 use Rattle.protocol.specs.declared.Call.the-variants.{Order, Deliver}
 use Rattle.protocol.specs.declared.Reply.the-variants.{Declared}
 use Rattle.protocol.specs.State.{queueLimit, declared, nodeAt, statusAt, keyAt, isNoticeTo, noticeWaits, wellFormed as listsAreWellFormed}
-use Rattle.protocol.specs.Calls.{refused as listsRefused, stepped, commit, keyIsTaken, declareRules, declaring, allOut, createRules, peerAt, joinRules, leaveRules, messageAt, without, isGrantable, deliverRules, receiving, rulesOf, effectOf, applyOf as applyToLists}
+use Rattle.protocol.specs.Calls.{stepped, commit, keyIsTaken, declaring, allOut, createRules, peerAt, joinRules, leaveRules, messageAt, without, isGrantable, deliverRules, receiving, rulesOf, effectOf, applyOf as applyToLists}
 use Rattle.protocol.specs.Answer.{accepted}
 use Rattle.protocol.proofs.Facts.{WellFormed as ListsWellFormed, formed as lists-formed}
 use Rattle.protocol.proofs.Waiting.{taken}
@@ -44,14 +43,14 @@ use Rattle.network.proofs.LiveLaws.{nodes-length, messages-length, node-live}
 use Rattle.access.specs.declared.Arrival.{Arrival}
 use Rattle.access.specs.declared.Found.{Found}
 use Rattle.access.specs.declared.Change.{Change}
-use Rattle.access.specs.Changes.{placed, added, closed, allPosted, adds, steps, delivers, written, committed}
+use Rattle.access.specs.Changes.{placed, added, closed, allPosted, written, committed}
 use Rattle.access.specs.Sights.{nodeIn, messageIn, sightOf, arrivalOf, least, keyIsTaken as keyIsTakenIn, someStands, noticeWaits as noticeWaitsIn}
 use Rattle.access.proofs.Shift.{length-without}
 use Rattle.access.proofs.Stores.{added-held, closed-held, stepped-held}
 use Rattle.decision.specs.declared.Decision.{Decision}
 use Rattle.decision.specs.declared.Report.{Report}
-use Rattle.decision.specs.Decisions.{Decided, decided as decidedBy, decisionOn, spotsOf, turnedAway, adding, stepping, delivering, afterStep, roomTests, unless, declareTests, createTests, joinStep, joinTests, leaveTests, receiveStep, deliverTests}
-use Rattle.engine.specs.Outcomes.{Counted, counted, reported, refused, inArrays, applyOf}
+use Rattle.decision.specs.Decisions.{Decided, decided as decidedBy, decisionOn, spotsOf, turnedAway, adding, stepping, delivering, afterStep, roomTests, unless, declareTests, createTests, joinStep, leaveTests, receiveStep, deliverTests}
+use Rattle.engine.specs.Outcomes.{counted, reported, inArrays, applyOf}
 use Rattle.engine.specs.Computed.{outcome}
 use Rattle.engine.proofs.RunLaws.{refused-here}
 use Rattle.engine.proofs.StepLaws.{create-posts, join-says, leave-says, deliver-says}

@@ -1,6 +1,6 @@
 -- A drain step by step: what is still to be delivered leads where the whole drain leads, and with what was made it counts as many. Each
 -- delivery at the lowest place keeps that, and where the drain does not go on it is finished. Assumes nothing.
-use mathlib.Core.Path.{_≡_, refl, sym, ap, _∙_}
+use mathlib.Core.Path.{_≡_, sym, ap, _∙_}
 use mathlib.Core.Logic.{⊎-elim, _≢_}
 use mathlib.Core.Bool.{true, false, _&&_}
 use mathlib.Core.List.{List, [], _∷_}
@@ -10,7 +10,7 @@ use native.Mathlib.Omega.{arith}
 use lib.ListN.{length, length-append, length-replicate}
 use lib.Dec.{ltb}
 use borrow.Author.Tests.{lt-ltb, ltb-true, ltb-false}
-use Rattle.truth.proofs.Laws.{both, and-false}
+use Rattle.truth.proofs.Laws.{both}
 use Rattle.truth.proofs.TestLaws.{decided, holds, is-true, not-both}
 use Rattle.refusal.specs.Rules.{done, first}
 use Rattle.node.specs.Shape.{capacity}

@@ -1,6 +1,5 @@
 -- `decision::rules::has_room` meets its contract: a step posts two messages at most, so that the sum fits. Assumes nothing.
 use borrow.Author.Needs.{needs}
-use native.Mathlib.Omega.{arith}
 use Rattle.decision.proofs.rules.has_room.Statement.{statement}
 use Rattle.decision.proofs.rules.has_room.Tie as tie
 

@@ -40,7 +40,6 @@ use Rattle.access.proofs.Places.{a-change, Known, known, lies, change-typed}
 use Rattle.access.proofs.Calling.{calls-plain}
 use Rattle.access.proofs.Lending.{Lends, lends, calls-lent, calls-giving}
 use Rattle.decision.specs.declared.Report.{Report}
-use Rattle.decision.specs.declared.Decision.{Decision}
 use Rattle.decision.specs.Decisions.{decided, decisionOn}
 use Rattle.decision.proofs.Decision.Laws as decision-laws
 use Rattle.engine.specs.Outcomes.{reported, counted, applyOf}

@@ -1,6 +1,6 @@
 -- `engine::questions::inserted` meets its contract: 6 where the network is not well formed, and else the word and its ones. Assumes nothing.
 use borrow.Author.Needs.{needs}
-use mathlib.Core.Path.{_≡_, sym, ap, _∙_}
+use mathlib.Core.Path.{sym, ap, _∙_}
 use Prim.Native.Nat.{ℕ}
 use lib.Count.{ones}
 use borrow.Author.Tests.{not-true, not-false}

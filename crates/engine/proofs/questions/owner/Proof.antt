@@ -1,6 +1,6 @@
 -- `engine::questions::owner` meets its contract: 6 where the network is not well formed, and else the question past the test. Assumes nothing.
 use borrow.Author.Needs.{needs}
-use mathlib.Core.Path.{sym, ap, _∙_}
+use mathlib.Core.Path.{sym, _∙_}
 use Rattle.engine.specs.Answers.{ownerOf}
 use Rattle.engine.proofs.questions.owner.Statement.{statement}
 use Rattle.engine.proofs.questions.owner.Tie as tie

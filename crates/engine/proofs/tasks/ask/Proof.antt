@@ -1,6 +1,6 @@
 -- `engine::tasks::ask` meets its contract, by what was read. Assumes nothing.
 use borrow.Author.Needs.{needs}
-use mathlib.Core.Path.{_≡_, refl, sym, subst, _∙_}
+use mathlib.Core.Path.{_≡_, refl, subst}
 use Prim.Native.Nat.{ℕ}
 use lib.ListN.{length}
 use Rattle.script.specs.declared.Reading.{Reading}

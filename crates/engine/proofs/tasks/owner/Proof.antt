@@ -1,6 +1,6 @@
 -- `engine::tasks::owner` meets its contract: each refusal at its rule, and else the walk. Assumes nothing.
 use borrow.Author.Needs.{needs}
-use mathlib.Core.Path.{_≡_, sym, ap, _∙_}
+use mathlib.Core.Path.{_≡_, sym, _∙_}
 use mathlib.Core.Bool.{true}
 use borrow.Author.Tests.{not-true, not-false}
 use Rattle.serial.specs.Serial.{inRange}

@@ -1,6 +1,6 @@
 -- `engine::tasks::owner_of_record` meets its contract: 5, then what is wrong with the serial, and else the question. Assumes nothing.
 use borrow.Author.Needs.{needs}
-use mathlib.Core.Path.{_≡_, sym, ap, _∙_}
+use mathlib.Core.Path.{ap, _∙_}
 use Rattle.serial.specs.Serial.{coded}
 use Rattle.network.proofs.Lengths.{lengths}
 use Rattle.engine.proofs.TaskLaws.{owner-undeclared, owner-serial-refused, owner-asked}
