@@ -1,2 +1,0 @@
-pub mod DecisionLaws
-pub mod Values

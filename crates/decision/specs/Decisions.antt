@@ -15,19 +15,15 @@ use Rattle.node.specs.Shape.{declaredOf, capacity}
 use Rattle.node.specs.Actions.{Effect, createOf, joinOf, leaveOf, actOf}
 use Rattle.protocol.specs.declared.Order.{Order}
 use Rattle.protocol.specs.declared.Order.the-variants.{Declare, Create, Join, Leave}
-use Rattle.protocol.specs.declared.Call.{Call}
-use Rattle.protocol.specs.declared.Call.the-variants as call
 use Rattle.protocol.specs.declared.Reply.{Reply}
 use Rattle.protocol.specs.declared.Reply.the-variants.{Declared}
 use Rattle.protocol.specs.State.{queueLimit}
 use Rattle.protocol.specs.Calls.{stepped}
 use Rattle.protocol.specs.Answer.{answered}
-use Rattle.network.specs.declared.Network.{Network}
 use Rattle.access.specs.declared.Spots.{Spots}
 use Rattle.access.specs.declared.Sight.{Sight}
 use Rattle.access.specs.declared.Arrival.{Arrival}
 use Rattle.access.specs.declared.Found.{Found}
-use Rattle.access.specs.Sights.{sightOf, arrivalOf, foundOf}
 use Rattle.access.specs.Changes.{Written, nothing, adds, steps, delivers, written}
 use Rattle.decision.specs.declared.Decision.{Decision}
 
@@ -120,8 +116,3 @@ deliverTests place a = (29 when not (ltb place (a .waiting))) ∷ roomTests (a .
 
 abbrev pub deliveryDecision : ℕ → Arrival → Decided
 deliveryDecision place a = ruled (deliverTests place a) turnedAway (delivering place (a .message .to) (receiveStep a))
-
--- ---- any call on a network, from what it looks at there
-unfoldable pub decisionOn : Network → Call → Decided
-decisionOn n (call.Order order) = orderDecision order (sightOf n (spotsOf order)) (foundOf n order)
-decisionOn n (call.Deliver place) = deliveryDecision place (arrivalOf n place)

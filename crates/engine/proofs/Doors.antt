@@ -48,7 +48,7 @@ use Rattle.engine.proofs.tasks.Task.Laws as task-laws
 use Rattle.engine.proofs.in_place.perform as perform
 use Rattle.engine.proofs.in_place.perform.Symbol.{name as #engine·in-place·perform}
 use Rattle.access.proofs.Reading.{a-network}
-use Rattle.decision.proofs.Values.{IsOf, a-report, report-typed}
+use Rattle.ruling.proofs.Values.{IsOf, a-report, report-typed}
 use Rattle.engine.proofs.TaskValues.{a-task, task-typed}
 use Rattle.engine.proofs.TaskLaws.{Reports, Admits}
 

@@ -25,7 +25,7 @@ use Rattle.engine.specs.declared.tasks.Task.{Task}
 use Rattle.engine.specs.declared.tasks.Task.the-variants as task-is
 use Rattle.engine.proofs.tasks.Task as task
 use Rattle.engine.proofs.tasks.Task.Laws as task-laws
-use Rattle.decision.proofs.Values.{IsOf}
+use Rattle.ruling.proofs.Values.{IsOf}
 
 abbrev pub a-refusal : Data
 a-refusal = of-enum refusal.the-type refusal-laws.the-laws refusal-laws.the-plain (λ x. tt) (λ x f. refl)

@@ -9,7 +9,7 @@ use ghost.Atoms.{Atoms}
 use types.Kit.{Given}
 use Rattle.network.proofs.Walking.{typed}
 use Rattle.access.proofs.Data.{Data, word, of-struct}
-use Rattle.decision.proofs.Values.{IsOf}
+use Rattle.ruling.proofs.Values.{IsOf}
 use Rattle.engine.specs.declared.formed.Tally.{Tally}
 use Rattle.engine.proofs.formed.Tally as tally
 use Rattle.engine.proofs.formed.Tally.Laws as tally-laws

@@ -53,7 +53,7 @@ pub(crate) fn apply(network: Network, call: Call) -> Called
     requires { ⌜ wellFormed network ≡ true ⌝ }
     ensures { λ r. ⌜ called r ≡ counted (applyOf network call) ⌝ }
 {
-    let decision = decision::decide(network, call);
+    let decision = ruling::decide(network, call);
     let change = decision.change;
     let report = decision.report;
     Called {

@@ -19,7 +19,7 @@ fn act(network: &mut Network, call: Call) -> Report
     requires { ⌜ wellFormed (now network) ≡ true ⌝ }
     ensures { λ r. ⌜ reported (now (network .exit)) r ≡ counted (applyOf (now (network .entry)) call) ⌝ }
 {
-    let decision = decision::decide_in_place(network, call);
+    let decision = ruling::decide_in_place(network, call);
     let change = formed::change_in(decision);
     access::commit(network, change);
     formed::report_in(decision)

@@ -16,7 +16,7 @@ use denote.Triple.Table.{entered, cited}
 use Rattle.protocol.proofs.Call.Laws as call-laws
 use Rattle.access.proofs.Frame.{framed}
 use Rattle.engine.specs.Outcomes.{applyOf}
-use Rattle.decision.proofs.Values.{a-call, a-report, call-typed}
+use Rattle.ruling.proofs.Values.{a-call, a-report, call-typed}
 use Rattle.engine.proofs.TaskLaws.{Reports, Admits, call-admitted}
 use Rattle.engine.proofs.Doors.{Perform, enters}
 use Rattle.engine.proofs.in_place.perform.Symbol as perform-def

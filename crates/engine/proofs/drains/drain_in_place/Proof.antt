@@ -18,7 +18,7 @@ use denote.Triple.Table.{entered, cited}
 use Rattle.access.proofs.Data.{a-number}
 use Rattle.access.proofs.Frame.{framed}
 use Rattle.engine.specs.Outcomes.{drainOf}
-use Rattle.decision.proofs.Values.{a-report}
+use Rattle.ruling.proofs.Values.{a-report}
 use Rattle.engine.proofs.TaskLaws.{Reports, Admits, drain-admitted}
 use Rattle.engine.proofs.Doors.{Perform, enters}
 use Rattle.engine.proofs.in_place.perform.Symbol as perform-def

@@ -40,15 +40,16 @@ use Rattle.access.proofs.Places.{a-change, Known, known, lies, change-typed}
 use Rattle.access.proofs.Calling.{calls-plain}
 use Rattle.access.proofs.Lending.{Lends, lends, calls-lent, calls-giving}
 use Rattle.decision.specs.declared.Report.{Report}
-use Rattle.decision.specs.Decisions.{decided, decisionOn}
+use Rattle.decision.specs.Decisions.{decided}
+use Rattle.ruling.specs.Rulings.{decisionOn}
 use Rattle.decision.proofs.Decision.Laws as decision-laws
 use Rattle.engine.specs.Outcomes.{reported, counted, applyOf}
 use Rattle.engine.proofs.CallLaws.{acted}
-use Rattle.decision.proofs.Values.{a-call, a-decision, a-report, IsOf, call-typed, decision-typed, report-typed}
-use Rattle.decision.proofs.decide_in_place as decide
-use Rattle.decision.proofs.decide_in_place.Symbol as decide-def
-use Rattle.decision.proofs.decide_in_place.Symbol.{name as #decision·decide-in-place}
-use Rattle.decision.proofs.decide_in_place.Met as decide-met
+use Rattle.ruling.proofs.Values.{a-call, a-decision, a-report, IsOf, call-typed, decision-typed, report-typed}
+use Rattle.ruling.proofs.decide_in_place as decide
+use Rattle.ruling.proofs.decide_in_place.Symbol as decide-def
+use Rattle.ruling.proofs.decide_in_place.Symbol.{name as #ruling·decide-in-place}
+use Rattle.ruling.proofs.decide_in_place.Met as decide-met
 use Rattle.access.proofs.commit as commit
 use Rattle.access.proofs.commit.Symbol as commit-def
 use Rattle.access.proofs.commit.Symbol.{name as #access·commit}
@@ -93,7 +94,7 @@ module _ {M : Type 1} (𝓤 : URA M) (H : Heap 𝓤) (A : Atoms 𝓤) (W : Given
 
 -- ---- the walk
 module _ {M : Type 1} (𝓤 : URA M) (H : Heap 𝓤) (A : Atoms 𝓤) (W : Given 𝓤 H A) (at-mem : Memory → SProp 𝓤) (run : Routine → Fun 𝓤) (𝓣 : Tables 𝓤 H)
-    (known-decide : Triple 𝓤 (𝓣 .C #decision·decide-in-place) (Decide 𝓤 H A at-mem run))
+    (known-decide : Triple 𝓤 (𝓣 .C #ruling·decide-in-place) (Decide 𝓤 H A at-mem run))
     (known-change : Triple 𝓤 (𝓣 .C #engine·formed·change-in) (ChangeIn 𝓤 H A at-mem run))
     (known-commit : Triple 𝓤 (𝓣 .C #access·commit) (Commit 𝓤 H A at-mem run))
     (known-report : Triple 𝓤 (𝓣 .C #engine·formed·report-in) (ReportIn 𝓤 H A at-mem run))
@@ -142,7 +143,7 @@ module _ {M : Type 1} (𝓤 : URA M) (H : Heap 𝓤) (A : Atoms 𝓤) (W : Given
       (acted n (lengths n _ (k .is)) asks c d x r (says .0) at tells))))))))))))))
 
 module _ {M : Type 1} (𝓤 : URA M) (H : Heap 𝓤) (A : Atoms 𝓤) (W : Given 𝓤 H A) (at-mem : Memory → SProp 𝓤) (run : Routine → Fun 𝓤) (𝓣 : Tables 𝓤 H)
-    (known-decide : Triple 𝓤 (𝓣 .C #decision·decide-in-place) (Decide 𝓤 H A at-mem run))
+    (known-decide : Triple 𝓤 (𝓣 .C #ruling·decide-in-place) (Decide 𝓤 H A at-mem run))
     (known-change : Triple 𝓤 (𝓣 .C #engine·formed·change-in) (ChangeIn 𝓤 H A at-mem run))
     (known-commit : Triple 𝓤 (𝓣 .C #access·commit) (Commit 𝓤 H A at-mem run))
     (known-report : Triple 𝓤 (𝓣 .C #engine·formed·report-in) (ReportIn 𝓤 H A at-mem run)) where
@@ -157,7 +158,7 @@ act-spec 𝓤 H 𝓜 𝓖 𝓡 =
     entered 𝓤 H (tripleOf 𝓤 H (𝓖 .A) this.signature (this.spec 𝓤 H (𝓖 .A) (𝓜 .mem) (𝓡 .run)))
     (tables 𝓤 H 𝓜 𝓡 code.env .C) (tables 𝓤 H 𝓜 𝓡 code.env .Λ) #engine·in-place·act code.function (code.unfolded 𝓤 H 𝓜 𝓡)
     (meets 𝓤 H (𝓖 .A) (givenOf 𝓤 H 𝓜 𝓖) (𝓜 .mem) (𝓡 .run) (tablesOf 𝓤 H 𝓜 (tables 𝓤 H 𝓜 𝓡 code.env))
-    (cited 𝓤 H (Decide 𝓤 H (𝓖 .A) (𝓜 .mem) (𝓡 .run)) 𝓜 𝓡 code.env #decision·decide-in-place decide-def.routine code.calls-decision·decide-in-place (decide-met.met 𝓤 H 𝓜 𝓖 𝓡))
+    (cited 𝓤 H (Decide 𝓤 H (𝓖 .A) (𝓜 .mem) (𝓡 .run)) 𝓜 𝓡 code.env #ruling·decide-in-place decide-def.routine code.calls-ruling·decide-in-place (decide-met.met 𝓤 H 𝓜 𝓖 𝓡))
     (cited 𝓤 H (ChangeIn 𝓤 H (𝓖 .A) (𝓜 .mem) (𝓡 .run)) 𝓜 𝓡 code.env #engine·formed·change-in change-in-def.routine code.calls-engine·formed·change-in (change-in-met.met 𝓤 H 𝓜 𝓖 𝓡))
     (cited 𝓤 H (Commit 𝓤 H (𝓖 .A) (𝓜 .mem) (𝓡 .run)) 𝓜 𝓡 code.env #access·commit commit-def.routine code.calls-access·commit (commit-met.met 𝓤 H 𝓜 𝓖 𝓡))
     (cited 𝓤 H (ReportIn 𝓤 H (𝓖 .A) (𝓜 .mem) (𝓡 .run)) 𝓜 𝓡 code.env #engine·formed·report-in report-in-def.routine code.calls-engine·formed·report-in (report-in-met.met 𝓤 H 𝓜 𝓖 𝓡)))

@@ -51,7 +51,7 @@ use Rattle.access.proofs.Lending.{Lends, lends, calls-giving}
 use Rattle.decision.specs.declared.Report.{Report}
 use Rattle.engine.specs.Outcomes.{reported, counted, applyOf}
 use Rattle.engine.specs.Computed.{placeOf, nextDelivery}
-use Rattle.decision.proofs.Values.{a-call, a-report, IsOf, call-typed, report-typed}
+use Rattle.ruling.proofs.Values.{a-call, a-report, IsOf, call-typed, report-typed}
 use Rattle.network.proofs.Network.Laws as net-laws
 use Rattle.protocol.specs.Drain.{lowest as lowestOf}
 use Rattle.engine.proofs.DrainLaws.{first-is-lowest}

@@ -47,7 +47,7 @@ use Rattle.engine.specs.declared.formed.Tally.{Tally}
 use Rattle.engine.specs.Outcomes.{reported, counted, drainOf}
 use Rattle.engine.specs.Computed.{nextDelivery}
 use Rattle.decision.proofs.Report.Laws as report-laws
-use Rattle.decision.proofs.Values.{a-report, IsOf, report-typed}
+use Rattle.ruling.proofs.Values.{a-report, IsOf, report-typed}
 use Rattle.engine.proofs.Values.{a-tally, tally-typed}
 use Rattle.refusal.specs.Rules.{done as done′}
 use Rattle.protocol.specs.declared.Reply.the-variants.{Ran}

@@ -57,7 +57,7 @@ use Rattle.engine.specs.Computed.{doneOn, Allowed}
 use Rattle.engine.proofs.tasks.Task as task
 use Rattle.engine.proofs.tasks.Task.Laws as task-laws
 use Rattle.access.proofs.Reading.{a-network}
-use Rattle.decision.proofs.Values.{IsOf, a-call, a-report, call-typed, report-typed}
+use Rattle.ruling.proofs.Values.{IsOf, a-call, a-report, call-typed, report-typed}
 use Rattle.access.proofs.Variants.{tag-of, field-of}
 use Rattle.engine.proofs.TaskValues.{a-refusal, a-serial, an-answer, a-task, refusal-typed, serial-typed, answer-typed, task-typed, by-task}
 use Rattle.engine.proofs.TaskLaws.{Reports, told-so, owner-leaves}

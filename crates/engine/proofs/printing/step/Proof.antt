@@ -70,7 +70,7 @@ use Rattle.engine.proofs.tasks.Asked.Laws as As′
 use Rattle.engine.proofs.printing.Kept as K
 use Rattle.engine.proofs.printing.Progress as P
 use Rattle.engine.proofs.printing.Progress.Laws as P′
-use Rattle.decision.proofs.Values.{IsOf, a-report, report-typed}
+use Rattle.ruling.proofs.Values.{IsOf, a-report, report-typed}
 use Rattle.engine.proofs.TaskValues.{a-task, task-typed}
 use Rattle.engine.proofs.TaskLaws.{Reports}
 use Rattle.engine.proofs.StepOfScript.{State, MayStep, Stepped, allowed, Left, Done, does}

@@ -1,0 +1,35 @@
+-- `decision::decide_leave` meets its contract: the step is the node's, and the rules go by it. Assumes nothing.
+use borrow.Author.Needs.{needs}
+use mathlib.Core.Path.{ap, _∙_}
+use mathlib.Core.Bool.{not, cond}
+use mathlib.Core.Option.{some}
+use lib.Dec.{ltb}
+use Rattle.refusal.specs.Code.{plain}
+use Rattle.refusal.specs.Rules.{first, settled}
+use Rattle.node.specs.Actions.{Effect, effect}
+use Rattle.decision.specs.Decisions.{turnedAway, stepping, afterStep, roomTests}
+use Rattle.decision.proofs.decide_leave.Statement.{statement}
+use Rattle.decision.proofs.decide_leave.Tie as tie
+
+returns : tie.Need-returns
+returns c =
+    let ruled = c .before .before in
+    let left = ruled .before .before .before in
+    let args = left .before .args in
+    let rest = ruled .before .after-step .ensures ∙ ap (afterStep (effect (left .leave .result) .said)) (ruled .before .before .check-room .ensures) in
+    let check = ruled .rule .ensures ∙ ap (cond (not (ltb (args .number) (args .count))) (some (plain 5))) rest in
+    c .settle .ensures
+    ∙ (λ i. settled (check i) turnedAway (c .before .stepping .ensures i))
+    ∙ ap (λ (e : Effect). settled (cond (not (ltb (args .number) (args .count))) (some (plain 5)) (afterStep (e .said) (first (roomTests (args .waiting) (e .posts))))) turnedAway (stepping (args .number) e)) (left .leave .ensures)
+
+pub decide-leave-spec : {M : Type 1} → statement M
+decide-leave-spec =
+    tie.close
+    (tie.spec
+    (λ c κs. search needs)
+    (λ c κs. search needs)
+    (λ c κs. search needs)
+    (λ c κs. search needs)
+    (λ c κs. search needs)
+    (λ c κs. search needs)
+    returns)

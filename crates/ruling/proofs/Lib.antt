@@ -1,0 +1,2 @@
+pub mod RulingLaws
+pub mod Values

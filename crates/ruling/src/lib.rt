@@ -1,0 +1,26 @@
+// What a call on any network comes to: what its rules look at is read out of the arrays (`access`), and the decision is made from that
+// (`decision`). By value and in place it is the same decision, and nothing is changed. That it is what paper 01's rules say of a well-formed
+// network is proved in the crate `engine`.
+ghost use mathlib.Core.Path.{_≡_};
+ghost use Rattle.decision.specs.Decisions.{decided};
+ghost use Rattle.ruling.specs.Rulings.{decisionOn};
+use decision::Decision;
+use network::Network;
+use protocol::Call;
+
+mod in_place;
+
+pub use in_place::decide as decide_in_place;
+
+// What a call comes to, from what it looks at.
+pub fn decide(network: Network, call: Call) -> Decision
+    ensures { λ r. ⌜ decided r ≡ decisionOn network call ⌝ }
+{
+    match call {
+        Call::Order(order) => {
+            let sight = access::seen(network, decision::spots(order));
+            decision::decide_order(order, sight, access::searched(network, order))
+        }
+        Call::Deliver(place) => decision::decide_delivery(place, access::met(network, place)),
+    }
+}
