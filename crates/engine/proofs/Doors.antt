@@ -41,10 +41,10 @@ use Rattle.access.proofs.Calling.{ends-plain, Plainly, calls-plain}
 use Rattle.access.proofs.Lending.{Lends, lends, calls-giving}
 use Rattle.decision.proofs.Report as report
 use Rattle.decision.proofs.Report.Laws as report-laws
-use Rattle.engine.specs.declared.tasks.Task.{Task}
+use Rattle.task.specs.declared.Task.{Task}
 use Rattle.engine.specs.Outcomes.{Applied, counted}
 use Rattle.engine.specs.Computed.{doneOn, Allowed}
-use Rattle.engine.proofs.tasks.Task.Laws as task-laws
+use Rattle.task.proofs.Task.Laws as task-laws
 use Rattle.engine.proofs.in_place.perform as perform
 use Rattle.engine.proofs.in_place.perform.Symbol.{name as #engine·in-place·perform}
 use Rattle.access.proofs.Reading.{a-network}

@@ -33,9 +33,9 @@ use Rattle.engine.specs.InArrays.{performOf}
 use Rattle.engine.specs.Reached.{reached, refusalIn}
 use Rattle.engine.proofs.RecordLaws.{on-lists, stays-well-formed, few-posted, refused-unchanged}
 use Rattle.engine.proofs.TaskLaws.{task-done}
-use Rattle.engine.specs.declared.tasks.Task.{Task}
-use Rattle.engine.specs.declared.tasks.Task.the-variants as task
-use Rattle.engine.specs.declared.tasks.Asked.{Asked}
+use Rattle.task.specs.declared.Task.{Task}
+use Rattle.task.specs.declared.Task.the-variants as task
+use Rattle.task.specs.declared.Asked.{Asked}
 use Rattle.engine.specs.Computed.{doneOn, Allowed, Asks}
 
 -- ---- what a step starts from and ends in, and how far that is; what the contract of a step asks, and what it ensures

@@ -1,6 +1,6 @@
 -- A record on the arrays of a well-formed network is its task: a call, a question or a drain is that of the lists, and where a field is refused the
 -- very network comes back with the reason. A question leaves the network as it is, and a task that is admitted is what was asked. Assumes nothing.
-use mathlib.Core.Path.{_≡_, refl, sym, subst}
+use mathlib.Core.Path.{_≡_, refl, sym, ap, subst, _∙_}
 use mathlib.Core.Logic.{⊎-elim}
 use mathlib.Core.Bool.{true, false, cond, not}
 use mathlib.Core.List.{[], _∷_}
@@ -8,7 +8,8 @@ use mathlib.Core.Option.{Option, none, some}
 use Prim.Native.Nat.{ℕ, _≤_, _<_}
 use native.Mathlib.Omega.{arith}
 use lib.ListN.{length}
-use borrow.Author.Tests.{lt-ltb, le-ltb}
+use lib.Dec.{ltb}
+use borrow.Author.Tests.{ltb-true, ltb-false, lt-ltb, le-ltb}
 use Rattle.truth.proofs.TestLaws.{decided}
 use Rattle.refusal.specs.declared.Refusal.the-variants.{Malformed}
 use Rattle.refusal.specs.Code.{Reason, plain}
@@ -27,6 +28,8 @@ use Rattle.network.specs.Arrays.{live, wellFormed, held}
 use Rattle.network.proofs.Lengths.{Lengths}
 use Rattle.network.proofs.ArrayLaws.{formed, held-live}
 use Rattle.network.proofs.LiveLaws.{nodes-length}
+use Rattle.members.specs.Members.{ownerAsked}
+use Rattle.members.proofs.QuestionLaws.{owner-live}
 use Rattle.script.specs.declared.Record.{Record}
 use Rattle.script.specs.declared.Record.the-variants as asks
 use Rattle.decision.specs.declared.Report.{Report}
@@ -34,9 +37,10 @@ use Rattle.engine.specs.Outcomes.{Applied, counted, reported, refused, i
 use Rattle.engine.specs.Answers.{ownerOf}
 use Rattle.course.specs.Performance.{fieldRules, valueOf, saying, performOf as performOnLists}
 use Rattle.engine.specs.InArrays.{performOf}
-use Rattle.engine.specs.declared.tasks.Task.{Task}
-use Rattle.engine.specs.declared.tasks.Task.the-variants.{Refuse, Call as CallTask, Drain}
-use Rattle.engine.specs.Computed.{taskOf, doneOn, Allowed}
+use Rattle.task.specs.declared.Task.{Task}
+use Rattle.task.specs.declared.Task.the-variants.{Refuse, Call as CallTask, Drain}
+use Rattle.task.specs.Tasks.{taskOf}
+use Rattle.engine.specs.Computed.{doneOn, Allowed}
 use Rattle.engine.proofs.RunLaws.{malformed, malformed-drain}
 
 -- what is only said, or refused, leaves the lists and posts nothing
@@ -59,7 +63,7 @@ module _ (n : Network) (l : Lengths n) (h : wellFormed n ≡ true) where
 
   -- ---- the owner of a serial, as a record asks it
   module _ (start : ℕ) where
-    pub owner-undeclared : (serial : Serial) → n .count ≤ start → no (plain 5) ≡ performOf n (asks.Owner start serial) .said
+    owner-undeclared : (serial : Serial) → n .count ≤ start → no (plain 5) ≡ performOf n (asks.Owner start serial) .said
     unfolding performOf performOnLists
     owner-undeclared serial past =
         let absent : declared (live n) start ≡ false = le-ltb start (length (live n .nodes)) (omega (arith, nodes-length n l h)) in
@@ -68,19 +72,38 @@ module _ (n : Network) (l : Lengths n) (h : wellFormed n ≡ true) where
     known : start < n .count → declared (live n) start ≡ true
     known here = lt-ltb start (length (live n .nodes)) (omega (arith, nodes-length n l h))
 
-    pub owner-serial-refused : start < n .count → (serial : Serial) (r : Reason) → coded serial ≡ no r → no r ≡ performOf n (asks.Owner start serial) .said
+    owner-serial-refused : start < n .count → (serial : Serial) (r : Reason) → coded serial ≡ no r → no r ≡ performOf n (asks.Owner start serial) .said
     unfolding performOf performOnLists
     owner-serial-refused here serial r e = rw (h, formed n h .lists, known here, e)
 
-    pub owner-asked : start < n .count → {serial : Serial} {value : ℕ} → serial ≡ Value value → ownerOf n start value ≡ performOf n (asks.Owner start serial) .said
+    owner-asked : start < n .count → {serial : Serial} {value : ℕ} → serial ≡ Value value → ownerOf n start value ≡ performOf n (asks.Owner start serial) .said
     unfolding performOf performOnLists ownerOf
     owner-asked here e = rw (h, formed n h .lists, known here, e)
 
+    -- what the arrays are asked is what the record says
+    owner-performed : (serial : Serial) → ownerAsked n start serial ≡ performOf n (asks.Owner start serial) .said
+    unfolding ownerOf
+    owner-performed serial = ⊎-elim (λ t. there (ltb-true start (n .count) t) serial) (λ f. absent f serial) (decided (ltb start (n .count)))
+      where
+        there : start < n .count → (serial : Serial) → ownerAsked n start serial ≡ performOf n (asks.Owner start serial) .said
+        there here (Value value) = owner-live n l h start value ∙ rw h at (owner-asked here {serial = Value value} {value = value} refl)
+        there here BadDigit = rw (lt-ltb start (n .count) here) (owner-serial-refused here BadDigit _ refl)
+        there here TooLarge = rw (lt-ltb start (n .count) here) (owner-serial-refused here TooLarge _ refl)
+
+        absent : ltb start (n .count) ≡ false → (serial : Serial) → ownerAsked n start serial ≡ performOf n (asks.Owner start serial) .said
+        absent f (Value value) = rw f (owner-undeclared (Value value) (ltb-false start (n .count) f))
+        absent f BadDigit = rw f (owner-undeclared BadDigit (ltb-false start (n .count) f))
+        absent f TooLarge = rw f (owner-undeclared TooLarge (ltb-false start (n .count) f))
+
     -- it leaves the network and posts nothing, whether or not it is refused
-    pub owner-leaves : (serial : Serial) → performOf n (asks.Owner start serial) ≡ record { network = n; posts = []; said = performOf n (asks.Owner start serial) .said }
+    owner-leaves : (serial : Serial) → performOf n (asks.Owner start serial) ≡ record { network = n; posts = []; said = performOf n (asks.Owner start serial) .said }
     unfolding performOf performOnLists
     owner-leaves serial =
         rw h (quiet (live n) same (first ((6 when not (listsAreWellFormed (live n))) ∷ fieldRules (live n) (asks.Owner start serial))) (ownerInLists (live n) start (valueOf (coded serial))))
+
+    -- the answer, told
+    pub owner-told : (serial : Serial) (r : Report) → answered (r .answer) ≡ ownerAsked n start serial → r .posted ≡ 0 → Reports (performOf n (asks.Owner start serial)) r n
+    owner-told serial r says none-posted = told-so n r (says ∙ owner-performed serial) none-posted ∙ ap counted (sym (owner-leaves serial))
 
   -- ---- a record is its task
   pub task-done : (asked : Record) → counted (doneOn n (taskOf asked)) ≡ counted (performOf n asked)

@@ -21,10 +21,10 @@ use Rattle.protocol.specs.declared.Answer.{Answer}
 use Rattle.protocol.proofs.Answer as answer
 use Rattle.protocol.proofs.Answer.Laws as answer-laws
 use Rattle.access.proofs.Data.{Data, word, of-enum}
-use Rattle.engine.specs.declared.tasks.Task.{Task}
-use Rattle.engine.specs.declared.tasks.Task.the-variants as task-is
-use Rattle.engine.proofs.tasks.Task as task
-use Rattle.engine.proofs.tasks.Task.Laws as task-laws
+use Rattle.task.specs.declared.Task.{Task}
+use Rattle.task.specs.declared.Task.the-variants as task-is
+use Rattle.task.proofs.Task as task
+use Rattle.task.proofs.Task.Laws as task-laws
 use Rattle.ruling.proofs.Values.{IsOf}
 
 abbrev pub a-refusal : Data

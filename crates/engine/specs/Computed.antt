@@ -1,5 +1,5 @@
--- No rules stand here: it is what the code computes on its way, a decision carried out, the next delivery of
--- a drain, and a record as a task. That this is what the rules say of a well-formed network is proved in `proofs/`. Definitions only.
+-- No rules stand here: it is what the code computes on its way, a decision carried out, the next delivery of a
+-- drain, and what a task comes to. That this is what the rules say of a well-formed network is proved in `proofs/`. Definitions only.
 use Prim.Native.Nat.{ℕ}
 use mathlib.Core.Path.{_≡_}
 use mathlib.Core.Bool.{true}
@@ -21,9 +21,10 @@ use Rattle.script.specs.declared.Record.the-variants as record′
 use Rattle.script.specs.declared.Reading.{Reading}
 use Rattle.script.specs.declared.Reading.the-variants as reading
 use Rattle.script.specs.Script.{Read, end, stop, next}
-use Rattle.engine.specs.declared.tasks.Asked.{Asked}
-use Rattle.engine.specs.declared.tasks.Task.{Task}
-use Rattle.engine.specs.declared.tasks.Task.the-variants as task
+use Rattle.task.specs.declared.Asked.{Asked}
+use Rattle.task.specs.declared.Task.{Task}
+use Rattle.task.specs.declared.Task.the-variants as task
+use Rattle.task.specs.Tasks.{taskOf}
 use Rattle.engine.specs.Outcomes.{Applied, refused, Counted, applyOf, drainOf}
 use Rattle.engine.specs.InArrays.{performOf}
 
@@ -38,30 +39,6 @@ placeOf (some place) = place
 
 abbrev pub nextDelivery : Network → Applied
 nextDelivery n = applyOf n (Deliver (placeOf (lowest (live n))))
-
--- ---- a record as a task
-abbrev pub declaring : Serial → Task
-declaring (serial.Value key) = task.Call (Order (Declare key))
-declaring serial.BadDigit = task.Refuse BadDigit
-declaring serial.TooLarge = task.Refuse SerialTooLarge
-
-abbrev pub taskOf : Record → Task
-taskOf (record′.Call call) = task.Call call
-taskOf (record′.Declare serial) = declaring serial
-taskOf (record′.Owner start serial) = task.Owner start serial
-taskOf (record′.Drain budget) = task.Drain budget
-
--- what is read; at the end, where nobody asks, it does not matter
-abbrev pub taskRead : Reading → Task
-taskRead reading.End = task.Refuse CutShort
-taskRead (reading.Stopped r) = task.Refuse r
-taskRead (reading.Next asked after) = taskOf asked
-
--- the cursor after it, in a script of so many bytes
-abbrev pub cursorAfter : ℕ → Reading → ℕ
-cursorAfter size reading.End = size
-cursorAfter size (reading.Stopped r) = size
-cursorAfter size (reading.Next asked after) = after
 
 -- what a task comes to, and what it asks of the network
 abbrev pub doneOn : Network → Task → Applied

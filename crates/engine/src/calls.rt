@@ -3,16 +3,16 @@ ghost use mathlib.Core.Path.{_≡_};
 ghost use mathlib.Core.Bool.{cond};
 ghost use Rattle.refusal.specs.declared.Refusal.the-variants.{Malformed};
 ghost use Rattle.network.specs.Arrays.{wellFormed};
-ghost use Rattle.engine.specs.declared.tasks.Task.the-variants as task;
+ghost use Rattle.task.specs.declared.Task.the-variants as task;
 ghost use Rattle.engine.specs.Outcomes.{called, reported, counted, applyOf};
 use crate::Called;
 use crate::formed;
 use crate::in_place;
-use crate::tasks::Task;
 use decision::Report;
 use network::Network;
 use protocol::Call;
 use refusal::Refusal;
+use task::Task;
 
 // Any call, on any network.
 pub fn apply(network: Network, call: Call) -> Called

@@ -3,15 +3,15 @@ ghost use mathlib.Core.Path.{_≡_};
 ghost use mathlib.Core.Bool.{cond};
 ghost use Rattle.refusal.specs.declared.Refusal.the-variants.{Malformed};
 ghost use Rattle.network.specs.Arrays.{wellFormed};
-ghost use Rattle.engine.specs.declared.tasks.Task.the-variants as task;
+ghost use Rattle.task.specs.declared.Task.the-variants as task;
 ghost use Rattle.engine.specs.Outcomes.{called, reported, counted, drainOf};
 use crate::Called;
 use crate::formed;
 use crate::in_place;
-use crate::tasks::Task;
 use decision::Report;
 use network::Network;
 use refusal::Refusal;
+use task::Task;
 
 // A drain of any network.
 pub fn drain(network: Network, budget: u16) -> Called

@@ -9,11 +9,11 @@ ghost use Rattle.engine.specs.Computed.{nextDelivery, doneOn, Allowed};
 use crate::formed;
 use crate::formed::Tally;
 use crate::tasks;
-use crate::tasks::Task;
 use decision::Report;
 use network::Network;
 use network::QUEUE_LIMIT;
 use protocol::Call;
+use task::Task;
 
 fn act(network: &mut Network, call: Call) -> Report
     requires { ⌜ wellFormed (now network) ≡ true ⌝ }
@@ -61,7 +61,7 @@ pub(crate) fn perform(network: &mut Network, task: Task) -> Report
         Task::Refuse(refusal) => tasks::refuse(refusal),
         Task::Call(call) => act(network, call),
         Task::Owner { start, serial } => {
-            let answer = tasks::owner_of_record(*network, start, serial);
+            let answer = members::owner_of_record(*network, start, serial);
             tasks::tell(answer)
         }
         Task::Drain(budget) => drain(network, budget),

@@ -2,7 +2,6 @@
 ghost use mathlib.Core.Path.{_≡_};
 ghost use Rattle.protocol.specs.Answer.{answered};
 ghost use Rattle.engine.specs.Answers.{insertedOf, ownerOf};
-use crate::tasks;
 use network::Network;
 use protocol::Answer;
 use protocol::Reply;
@@ -27,7 +26,7 @@ pub fn owner(network: Network, start: u8, serial: u32) -> Answer
     ensures { λ r. ⌜ answered r ≡ ownerOf network start serial ⌝ }
 {
     if network.is_well_formed() {
-        tasks::owner(network, start, serial)
+        members::owner(network, start, serial)
     } else {
         Answer::Refused(Refusal::Malformed)
     }

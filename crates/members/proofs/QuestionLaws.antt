@@ -1,11 +1,14 @@
 -- The rules of a question, by what the arrays of a well-formed network are asked: who is inserted, with the number of the word's ones, and what
 -- each rule of the owner refuses, in their order, before the walk. Assumes nothing.
 use mathlib.Core.Path.{_≡_, sym, ap, _∙_}
-use mathlib.Core.Bool.{true, false}
+use mathlib.Core.Logic.{⊎-elim}
+use mathlib.Core.Bool.{true, false, cond}
 use Prim.Native.Nat.{ℕ, _≤_, _<_}
 use lib.ListN.{length}
 use lib.Count.{ones}
-use borrow.Author.Tests.{lt-ltb, le-ltb}
+use lib.Dec.{ltb}
+use borrow.Author.Tests.{ltb-true, ltb-false, lt-ltb, le-ltb}
+use Rattle.truth.proofs.TestLaws.{decided}
 use Rattle.truth.proofs.WordLaws.{word-ones}
 use Rattle.refusal.specs.Code.{plain}
 use Rattle.refusal.specs.Rules.{Coded, done, no as refusal}
@@ -19,7 +22,7 @@ use Rattle.network.specs.Arrays.{live, wellFormed}
 use Rattle.network.proofs.Lengths.{Lengths}
 use Rattle.network.proofs.ArrayLaws.{formed}
 use Rattle.network.proofs.LiveLaws.{nodes-length}
-use Rattle.members.specs.Members.{memberIn, wordOf, walkFrom}
+use Rattle.members.specs.Members.{memberIn, wordOf, walkFrom, ownerIn}
 use Rattle.members.proofs.MemberLaws.{member-live, word-live, walk-live}
 
 module _ (n : Network) (l : Lengths n) (h : wellFormed n ≡ true) where
@@ -47,3 +50,14 @@ module _ (n : Network) (l : Lengths n) (h : wellFormed n ≡ true) where
       pub owner-walked : inRange serial ≡ true → memberIn n start ≡ true → ownerOf (live n) start serial ≡ walked (walkFrom n serial (n .count) start 0)
       unfolding ownerOf
       owner-walked e f = rw (formed n h .lists, declared-start, e, sym (member-live n l h start k) ∙ f) (ap walked (sym (walk-live n l h serial start k)))
+
+    -- what the tests come to is what the rules say of the lists
+    pub owner-live : ownerIn n start serial ≡ ownerOf (live n) start serial
+    owner-live = ⊎-elim (λ t. rw t (there (ltb-true start (n .count) t))) (λ f. rw f (sym (start-undeclared (ltb-false start (n .count) f)))) (decided (ltb start (n .count)))
+      where
+        member : (k : start < n .count) → inRange serial ≡ true → cond (memberIn n start) (walked (walkFrom n serial (n .count) start 0)) (refusal (plain 30)) ≡ ownerOf (live n) start serial
+        member k e = ⊎-elim (λ t. rw t (sym (owner-walked k e t))) (λ f. rw f (sym (start-not-inserted k e f))) (decided (memberIn n start))
+
+        there : (k : start < n .count)
+            → cond (inRange serial) (cond (memberIn n start) (walked (walkFrom n serial (n .count) start 0)) (refusal (plain 30))) (refusal (plain 4)) ≡ ownerOf (live n) start serial
+        there k = ⊎-elim (λ t. rw t (member k t)) (λ f. rw f (sym (serial-too-large k f))) (decided (inRange serial))

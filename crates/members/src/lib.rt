@@ -1,6 +1,6 @@
-// What a network is asked, for every network: whether a node is inserted, all who are, and which node owns a serial. No rule refuses here: a
-// number past an array counts from its beginning again, and counts past the arrays are cut. The questions with their refusals stand in a crate
-// above; what these come to on a well-formed network's lists is proved in `proofs/`.
+// What a network is asked, for every network: all who are inserted, and which node owns a serial. A number past an array counts from its beginning
+// again, and counts past the arrays are cut. What these come to on a well-formed network's lists is proved in `proofs/`; whether a network is well
+// formed is tested in a crate above.
 ghost use mathlib.Core.Path.{_≡_};
 ghost use Prim.Native.Nat.{_≤_};
 ghost use lib.ListN.{take};
@@ -9,7 +9,11 @@ ghost use Rattle.protocol.specs.State.{isAckTo, isInserted};
 ghost use Rattle.protocol.specs.Answer.{answered};
 ghost use Rattle.protocol.specs.Questions.{walked};
 ghost use Rattle.access.specs.Sights.{least};
-ghost use Rattle.members.specs.Members.{memberIn, wordOf, walkFrom};
+ghost use mathlib.Core.Bool.{cond};
+ghost use lib.Dec.{ltb};
+ghost use Rattle.refusal.specs.Code.{reason, plain};
+ghost use Rattle.refusal.specs.Rules.{no};
+ghost use Rattle.members.specs.Members.{memberIn, wordOf, walkFrom, ownerIn, ownerAsked};
 use network::CAPACITY;
 use network::Network;
 use network::QUEUE_LIMIT;
@@ -19,6 +23,7 @@ use node::Status;
 use protocol::Answer;
 use protocol::Reply;
 use refusal::Refusal;
+use serial::Serial;
 
 fn least(n: u8, limit: u8) -> u8
     ensures { λ r. ⌜ r ≡ least n limit ⌝ }
@@ -55,7 +60,7 @@ fn is_inserted(status: Status, messages: [Message; 64], waiting: usize, number: 
     }
 }
 
-pub fn is_member(network: Network, number: u8) -> bool
+fn is_member(network: Network, number: u8) -> bool
     ensures { λ r. ⌜ r ≡ memberIn network number ⌝ }
 {
     let at = number % CAPACITY;
@@ -88,7 +93,7 @@ pub fn word(network: Network) -> u32
 }
 
 // Along right links from a start, to the node whose interval holds the serial; each hop reads one node.
-pub fn walk(network: Network, start: u8, serial: u32) -> Answer
+fn walk(network: Network, start: u8, serial: u32) -> Answer
     ensures { λ r. ⌜ answered r ≡ walked (walkFrom network serial (network .count) start 0) ⌝ }
 {
     let from = start % CAPACITY;
@@ -111,4 +116,41 @@ pub fn walk(network: Network, start: u8, serial: u32) -> Answer
         hops += 1;
     }
     Answer::Refused(Refusal::OwnerNotFound)
+}
+
+// The owner of a serial from a start.
+pub fn owner(network: Network, start: u8, serial: u32) -> Answer
+    ensures { λ r. ⌜ answered r ≡ ownerIn network start serial ⌝ }
+{
+    if network.count <= start {
+        return Answer::Refused(Refusal::Undeclared);
+    }
+    if !serial::in_range(serial) {
+        return Answer::Refused(Refusal::SerialTooLarge);
+    }
+    if !is_member(network, start) {
+        return Answer::Refused(Refusal::StartNotInserted);
+    }
+    walk(network, start, serial)
+}
+
+// The start comes before the serial.
+fn refuse_serial(count: u8, start: u8, refusal: Refusal) -> Answer
+    ensures { λ r. ⌜ answered r ≡ cond (ltb start count) (no (reason refusal)) (no (plain 5)) ⌝ }
+{
+    if count <= start {
+        return Answer::Refused(Refusal::Undeclared);
+    }
+    Answer::Refused(refusal)
+}
+
+// The same as a record asks it, whose serial may be refused at its turn.
+pub fn owner_of_record(network: Network, start: u8, serial: Serial) -> Answer
+    ensures { λ r. ⌜ answered r ≡ ownerAsked network start serial ⌝ }
+{
+    match serial {
+        Serial::Value(value) => owner(network, start, value),
+        Serial::BadDigit => refuse_serial(network.count, start, Refusal::BadDigit),
+        Serial::TooLarge => refuse_serial(network.count, start, Refusal::SerialTooLarge),
+    }
 }

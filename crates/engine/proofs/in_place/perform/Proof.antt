@@ -49,18 +49,19 @@ use Rattle.decision.specs.declared.Report.{Report}
 use Rattle.decision.proofs.Report as report
 use Rattle.decision.proofs.Report.Laws as report-laws
 use Rattle.script.specs.declared.Record.the-variants.{Owner as OwnerRecord}
-use Rattle.engine.specs.declared.tasks.Task.{Task}
-use Rattle.engine.specs.declared.tasks.Task.the-variants.{Refuse, Call as CallTask, Owner, Drain}
+use Rattle.task.specs.declared.Task.{Task}
+use Rattle.task.specs.declared.Task.the-variants.{Refuse, Call as CallTask, Owner, Drain}
 use Rattle.engine.specs.Outcomes.{counted, applyOf, drainOf}
 use Rattle.engine.specs.InArrays.{performOf}
 use Rattle.engine.specs.Computed.{doneOn, Allowed}
-use Rattle.engine.proofs.tasks.Task as task
-use Rattle.engine.proofs.tasks.Task.Laws as task-laws
+use Rattle.task.proofs.Task as task
+use Rattle.task.proofs.Task.Laws as task-laws
 use Rattle.access.proofs.Reading.{a-network}
 use Rattle.ruling.proofs.Values.{IsOf, a-call, a-report, call-typed, report-typed}
 use Rattle.access.proofs.Variants.{tag-of, field-of}
 use Rattle.engine.proofs.TaskValues.{a-refusal, a-serial, an-answer, a-task, refusal-typed, serial-typed, answer-typed, task-typed, by-task}
-use Rattle.engine.proofs.TaskLaws.{Reports, told-so, owner-leaves}
+use Rattle.members.specs.Members.{ownerAsked}
+use Rattle.engine.proofs.TaskLaws.{Reports, told-so, owner-told}
 use Rattle.engine.proofs.tasks.refuse as refuse
 use Rattle.engine.proofs.tasks.refuse.Symbol as refuse-def
 use Rattle.engine.proofs.tasks.refuse.Symbol.{name as #engine·tasks·refuse}
@@ -69,10 +70,10 @@ use Rattle.engine.proofs.in_place.act as act
 use Rattle.engine.proofs.in_place.act.Symbol as act-def
 use Rattle.engine.proofs.in_place.act.Symbol.{name as #engine·in-place·act}
 use Rattle.engine.proofs.in_place.act.Met as act-met
-use Rattle.engine.proofs.tasks.owner_of_record as owner
-use Rattle.engine.proofs.tasks.owner_of_record.Symbol as owner-def
-use Rattle.engine.proofs.tasks.owner_of_record.Symbol.{name as #engine·tasks·owner-of-record}
-use Rattle.engine.proofs.tasks.owner_of_record.Met as owner-met
+use Rattle.members.proofs.owner_of_record as owner
+use Rattle.members.proofs.owner_of_record.Symbol as owner-def
+use Rattle.members.proofs.owner_of_record.Symbol.{name as #members·owner-of-record}
+use Rattle.members.proofs.owner_of_record.Met as owner-met
 use Rattle.engine.proofs.tasks.tell as tell
 use Rattle.engine.proofs.tasks.tell.Symbol as tell-def
 use Rattle.engine.proofs.tasks.tell.Symbol.{name as #engine·tasks·tell}
@@ -116,7 +117,7 @@ module _ {M : Type 1} (𝓤 : URA M) (H : Heap 𝓤) (A : Atoms 𝓤) (W : Given
 module _ {M : Type 1} (𝓤 : URA M) (H : Heap 𝓤) (A : Atoms 𝓤) (W : Given 𝓤 H A) (at-mem : Memory → SProp 𝓤) (run : Routine → Fun 𝓤) (𝓣 : Tables 𝓤 H)
     (known-refuse : Triple 𝓤 (𝓣 .C #engine·tasks·refuse) (Refuses 𝓤 H A at-mem run))
     (known-act : Triple 𝓤 (𝓣 .C #engine·in-place·act) (Act 𝓤 H A at-mem run))
-    (known-owner : Triple 𝓤 (𝓣 .C #engine·tasks·owner-of-record) (Owns 𝓤 H A at-mem run))
+    (known-owner : Triple 𝓤 (𝓣 .C #members·owner-of-record) (Owns 𝓤 H A at-mem run))
     (known-tell : Triple 𝓤 (𝓣 .C #engine·tasks·tell) (Tells 𝓤 H A at-mem run))
     (known-drain : Triple 𝓤 (𝓣 .C #engine·in-place·drain) (Drains 𝓤 H A at-mem run))
     (κ : Lft) (q : Share) (b o : ℕ) (γ : GName) (n : Network) (t : Task) where
@@ -181,7 +182,7 @@ module _ {M : Type 1} (𝓤 : URA M) (H : Heap 𝓤) (A : Atoms 𝓤) (W : Given
       sets ! 16 refl (of-opd ! (field-of ! 24 2 1 serial-laws.mir 4 refl refl refl refl)) (serial-typed 𝓤 H A W s (are .1 .0)) $
       sets ! 6 refl (of-opd ! (load ! (from ! (hop ! (look ! 26 refl) (stop !))) (look-by ! 0 fullShare (whole-shows 𝓤 H A W b o n)))) (network-typed 𝓤 H A W n (k .is)) $
       calls-plain ! (fmOf 𝓤 H (W .laws) 𝓣) (a-network ∷ a-byte ∷ a-serial ∷ []) an-answer (owner.clauses 𝓤 H A at-mem run) known-owner (n, (start, (s, tt)))
-      (k .is, (are .0, (are .1 .0, tt))) tt (factI 𝓤 _ _ (subst (Allowed n) e allowed)) (λ r. answered r ≡ performOf n (OwnerRecord start s) .said) (λ r zs. id⊢ 𝓤 _)
+      (k .is, (are .0, (are .1 .0, tt))) tt (id⊢ 𝓤 _) (λ r. answered r ≡ ownerAsked n start s) (λ r zs. id⊢ 𝓤 _)
       (and-then ! (var ! 7 refl) (and-then ! (var ! 19 refl) (and-then ! (var ! 17 refl) (no-more !)))) (λ a a-is asked.
       lands-in ! 14 refl (answer-typed 𝓤 H A W a a-is) $
       calls-plain ! (fmOf 𝓤 H (W .laws) 𝓣) (an-answer ∷ []) a-report (tell.clauses 𝓤 H A at-mem run) known-tell (a, tt) (a-is, tt) tt (id⊢ 𝓤 _)
@@ -195,7 +196,7 @@ module _ {M : Type 1} (𝓤 : URA M) (H : Heap 𝓤) (A : Atoms 𝓤) (W : Given
       move ! (27 ∷ 28 ∷ []) $ free1 ! $ move ! (25 ∷ 26 ∷ []) $ free1 ! $ move ! (23 ∷ 24 ∷ []) $ free1 ! $ move ! (21 ∷ 22 ∷ []) $ free1 ! $ move ! (19 ∷ 20 ∷ []) $ free1 ! $ move ! (17 ∷ 18 ∷ []) $ free1 ! $
       move ! (15 ∷ 16 ∷ []) $ free1 ! $ move ! (13 ∷ 14 ∷ []) $ free1 ! $ move ! (11 ∷ 12 ∷ []) $ free1 ! $ move ! (9 ∷ 10 ∷ []) $ free1 ! $ move ! (7 ∷ 8 ∷ []) $ free1 ! $ move ! (5 ∷ 6 ∷ []) $ free1 ! $ move ! (3 ∷ 4 ∷ []) $ free1 ! $ free0 ! $
       keep ! (0 ∷ 1 ∷ 2 ∷ []) $
-      by ! (gives 𝓤 H A report.the-row Done κ q b o γ (word a-report r) r n is (done-so r n e (told-so n r (says .0 ∙ asked) (says .1) ∙ ap counted (sym (owner-leaves n (lengths n _ (k .is)) (subst (Allowed n) e allowed) start s))))))))
+      by ! (gives 𝓤 H A report.the-row Done κ q b o γ (word a-report r) r n is (done-so r n e (owner-told n (lengths n _ (k .is)) (subst (Allowed n) e allowed) start s r (says .0 ∙ asked) (says .1)))))))
       -- Drain
       (λ budget e. rewrite ! 24 (λ (s : Task). ‵ (fat fullShare task-laws.mir l₂ 0 (word a-task s))) e refl $ switch-to ! 𝓣 (tag-of ! 24 refl refl refl) tt $
       let are = enum.owed task.the-type task-laws.the-laws (Drain budget) _ (subst (IsOf a-task) e t-is) in
@@ -216,7 +217,7 @@ module _ {M : Type 1} (𝓤 : URA M) (H : Heap 𝓤) (A : Atoms 𝓤) (W : Given
 module _ {M : Type 1} (𝓤 : URA M) (H : Heap 𝓤) (A : Atoms 𝓤) (W : Given 𝓤 H A) (at-mem : Memory → SProp 𝓤) (run : Routine → Fun 𝓤) (𝓣 : Tables 𝓤 H)
     (known-refuse : Triple 𝓤 (𝓣 .C #engine·tasks·refuse) (Refuses 𝓤 H A at-mem run))
     (known-act : Triple 𝓤 (𝓣 .C #engine·in-place·act) (Act 𝓤 H A at-mem run))
-    (known-owner : Triple 𝓤 (𝓣 .C #engine·tasks·owner-of-record) (Owns 𝓤 H A at-mem run))
+    (known-owner : Triple 𝓤 (𝓣 .C #members·owner-of-record) (Owns 𝓤 H A at-mem run))
     (known-tell : Triple 𝓤 (𝓣 .C #engine·tasks·tell) (Tells 𝓤 H A at-mem run))
     (known-drain : Triple 𝓤 (𝓣 .C #engine·in-place·drain) (Drains 𝓤 H A at-mem run)) where
   meets : Meets 𝓤 H A this.signature (WpFn 𝓤 H (𝓣 .C) (𝓣 .Λ) code.function) (this.spec 𝓤 H A at-mem run)
@@ -232,6 +233,6 @@ perform-spec 𝓤 H 𝓜 𝓖 𝓡 =
     (meets 𝓤 H (𝓖 .A) (givenOf 𝓤 H 𝓜 𝓖) (𝓜 .mem) (𝓡 .run) (tablesOf 𝓤 H 𝓜 (tables 𝓤 H 𝓜 𝓡 code.env))
     (cited 𝓤 H (Refuses 𝓤 H (𝓖 .A) (𝓜 .mem) (𝓡 .run)) 𝓜 𝓡 code.env #engine·tasks·refuse refuse-def.routine code.calls-engine·tasks·refuse (refuse-met.met 𝓤 H 𝓜 𝓖 𝓡))
     (cited 𝓤 H (Act 𝓤 H (𝓖 .A) (𝓜 .mem) (𝓡 .run)) 𝓜 𝓡 code.env #engine·in-place·act act-def.routine code.calls-engine·in-place·act (act-met.met 𝓤 H 𝓜 𝓖 𝓡))
-    (cited 𝓤 H (Owns 𝓤 H (𝓖 .A) (𝓜 .mem) (𝓡 .run)) 𝓜 𝓡 code.env #engine·tasks·owner-of-record owner-def.routine code.calls-engine·tasks·owner-of-record (owner-met.met 𝓤 H 𝓜 𝓖 𝓡))
+    (cited 𝓤 H (Owns 𝓤 H (𝓖 .A) (𝓜 .mem) (𝓡 .run)) 𝓜 𝓡 code.env #members·owner-of-record owner-def.routine code.calls-members·owner-of-record (owner-met.met 𝓤 H 𝓜 𝓖 𝓡))
     (cited 𝓤 H (Tells 𝓤 H (𝓖 .A) (𝓜 .mem) (𝓡 .run)) 𝓜 𝓡 code.env #engine·tasks·tell tell-def.routine code.calls-engine·tasks·tell (tell-met.met 𝓤 H 𝓜 𝓖 𝓡))
     (cited 𝓤 H (Drains 𝓤 H (𝓖 .A) (𝓜 .mem) (𝓡 .run)) 𝓜 𝓡 code.env #engine·in-place·drain drain-def.routine code.calls-engine·in-place·drain (drain-met.met 𝓤 H 𝓜 𝓖 𝓡)))

@@ -58,15 +58,15 @@ use Rattle.decision.specs.declared.Report.{Report}
 use Rattle.decision.proofs.Report as Report
 use Rattle.decision.proofs.Report.Laws as Report′
 use Rattle.script.specs.Script.{readAt}
-use Rattle.engine.specs.declared.tasks.Task.{Task}
-use Rattle.engine.specs.declared.tasks.Asked.{Asked}
+use Rattle.task.specs.declared.Task.{Task}
+use Rattle.task.specs.declared.Asked.{Asked}
 use Rattle.engine.specs.declared.printing.Kept.{Kept}
 use Rattle.engine.specs.declared.printing.Progress.{Progress}
 use Rattle.engine.specs.Outcomes.{reported}
 use Rattle.engine.specs.Computed.{doneOn, Allowed, Asks}
-use Rattle.engine.proofs.tasks.Task.Laws as task-laws
-use Rattle.engine.proofs.tasks.Asked as As
-use Rattle.engine.proofs.tasks.Asked.Laws as As′
+use Rattle.task.proofs.Task.Laws as task-laws
+use Rattle.task.proofs.Asked as As
+use Rattle.task.proofs.Asked.Laws as As′
 use Rattle.engine.proofs.printing.Kept as K
 use Rattle.engine.proofs.printing.Progress as P
 use Rattle.engine.proofs.printing.Progress.Laws as P′

@@ -1,12 +1,18 @@
--- `engine::questions::owner` meets its contract: 6 where the network is not well formed, and else the question past the test. Assumes nothing.
+-- `engine::questions::owner` meets its contract: 6 where the network is not well formed, and else the question. Assumes nothing.
 use borrow.Author.Needs.{needs}
 use mathlib.Core.Path.{sym, _∙_}
+use Rattle.network.proofs.Lengths.{lengths}
+use Rattle.members.proofs.QuestionLaws.{owner-live}
 use Rattle.engine.specs.Answers.{ownerOf}
 use Rattle.engine.proofs.questions.owner.Statement.{statement}
 use Rattle.engine.proofs.questions.owner.Tie as tie
 
-owner-requires : tie.Need-owner-requires
-owner-requires c κs = sym (c .before .is-well-formed .ensures) ∙ c .if1 .taken
+returns : tie.Need-returns
+unfolding ownerOf
+returns c =
+    let start = c .before .before .before in
+    let h = sym (c .before .before .is-well-formed .ensures) ∙ c .before .if1 .taken in
+    rw h (c .owner .ensures ∙ owner-live (start .args .network) (lengths _ _ (start .good .0)) h (start .args .start) (start .args .serial))
 
 returns-2 : tie.Need-returns-2
 unfolding ownerOf
@@ -17,6 +23,6 @@ owner-spec =
     tie.close
     (tie.spec
     (λ c κs. search needs)
-    owner-requires
-    (λ c. search needs)
+    (λ c κs. search needs)
+    returns
     returns-2)

@@ -6,8 +6,9 @@ use lib.ListN.{length}
 use Rattle.script.specs.declared.Reading.{Reading}
 use Rattle.script.specs.declared.Reading.the-variants.{End, Stopped, Next}
 use Rattle.script.specs.Script.{Read, reading}
-use Rattle.engine.specs.declared.tasks.Asked.{Asked}
-use Rattle.engine.specs.Computed.{taskRead, cursorAfter, Asks}
+use Rattle.task.specs.declared.Asked.{Asked}
+use Rattle.task.specs.Tasks.{taskRead, cursorAfter}
+use Rattle.engine.specs.Computed.{Asks}
 use Rattle.engine.proofs.tasks.ask.Statement.{statement}
 use Rattle.engine.proofs.tasks.ask.Tie as tie
 

@@ -1,9 +1,9 @@
--- `engine::tasks::task_of` meets its contract, by the record. Assumes nothing.
+-- `task::task_of` meets its contract, by the record. Assumes nothing.
 use borrow.Author.Needs.{needs}
 use mathlib.Core.Path.{sym, ap, _∙_}
-use Rattle.engine.specs.Computed.{taskOf}
-use Rattle.engine.proofs.tasks.task_of.Statement.{statement}
-use Rattle.engine.proofs.tasks.task_of.Tie as tie
+use Rattle.task.specs.Tasks.{taskOf}
+use Rattle.task.proofs.task_of.Statement.{statement}
+use Rattle.task.proofs.task_of.Tie as tie
 
 returns : tie.Need-returns
 returns c = ap taskOf (sym (c .before .asked .given .1))

@@ -1,12 +1,12 @@
--- `engine::tasks::asked_by` meets its contract, by what was read. Assumes nothing.
+-- `task::asked_by` meets its contract, by what was read. Assumes nothing.
 use borrow.Author.Needs.{needs}
 use Prim.Native.Nat.{ℕ}
 use mathlib.Core.Path.{_≡_, refl, sym, ap, _∙_}
 use Rattle.script.specs.declared.Reading.{Reading}
-use Rattle.engine.specs.declared.tasks.Task.{Task}
-use Rattle.engine.specs.Computed.{taskRead, cursorAfter}
-use Rattle.engine.proofs.tasks.asked_by.Statement.{statement}
-use Rattle.engine.proofs.tasks.asked_by.Tie as tie
+use Rattle.task.specs.declared.Task.{Task}
+use Rattle.task.specs.Tasks.{taskRead, cursorAfter}
+use Rattle.task.proofs.asked_by.Statement.{statement}
+use Rattle.task.proofs.asked_by.Tie as tie
 
 -- what holds of one reading holds of an equal one
 of-equal : (size : ℕ) (task : Task) (after : ℕ) {r s : Reading} → s ≡ r → (task ≡ taskRead r) × (after ≡ cursorAfter size r) → (task ≡ taskRead s) × (after ≡ cursorAfter size s)

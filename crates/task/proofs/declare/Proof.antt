@@ -1,9 +1,9 @@
--- `engine::tasks::declare` meets its contract, by the serial. Assumes nothing.
+-- `task::declare` meets its contract, by the serial. Assumes nothing.
 use borrow.Author.Needs.{needs}
 use mathlib.Core.Path.{sym, ap}
-use Rattle.engine.specs.Computed.{declaring}
-use Rattle.engine.proofs.tasks.declare.Statement.{statement}
-use Rattle.engine.proofs.tasks.declare.Tie as tie
+use Rattle.task.specs.Tasks.{declaring}
+use Rattle.task.proofs.declare.Statement.{statement}
+use Rattle.task.proofs.declare.Tie as tie
 
 returns : tie.Need-returns
 returns c = ap declaring (sym (c .before .serial .given .1))
