@@ -7,11 +7,11 @@ mod answers;
 mod create;
 mod join;
 mod leave;
-mod parts;
 mod receive;
 mod set_l;
 mod set_r;
 mod shape;
+mod steps;
 mod tests;
 
 pub enum Status {

@@ -10,7 +10,7 @@ use crate::Posts;
 use crate::Seq;
 use crate::Step;
 use crate::Verdict;
-use crate::parts;
+use crate::steps;
 use sequence::Number;
 
 fn grants_request(node: Node, sender: u8, new: u8, expected: u8) -> bool
@@ -62,10 +62,10 @@ pub fn on_set_r(node: Node, me: u8, sender: u8, new: u8, expected: u8, number: N
             to: sender,
             kind: Kind::SetRNak,
         };
-        return parts::posts_one(node, nak, Outcome::Denied);
+        return steps::posts_one(node, nak, Outcome::Denied);
     }
     let next = sequence::capped_next(rseq.number());
-    let relinked = parts::with_right(node, Link::To(new), Seq::Is(number));
+    let relinked = steps::with_right(node, Link::To(new), Seq::Is(number));
     let ack = Message {
         sender: me,
         to: sender,
