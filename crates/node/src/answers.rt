@@ -3,10 +3,10 @@ ghost use mathlib.Core.Path.{_≡_};
 ghost use Rattle.node.specs.Actions.{effect, onSetRAck, onSetRNak};
 use crate::Node;
 use crate::Outcome;
-use crate::Seq;
-use crate::Status;
 use crate::Step;
 use crate::steps;
+use parts::Seq;
+use parts::Status;
 use sequence::Number;
 
 pub fn on_set_r_ack(node: Node, number: Number) -> Step

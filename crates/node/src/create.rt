@@ -2,14 +2,14 @@
 ghost use mathlib.Core.Path.{_≡_};
 ghost use Rattle.refusal.specs.Rules.{first, checked};
 ghost use Rattle.node.specs.Actions.{effect, createRules, created, createOf};
-use crate::Link;
 use crate::Node;
 use crate::Outcome;
-use crate::Seq;
-use crate::Status;
 use crate::Step;
 use crate::shape;
 use crate::steps;
+use parts::Link;
+use parts::Seq;
+use parts::Status;
 use refusal::Check;
 use refusal::Refusal;
 

@@ -2,16 +2,16 @@
 ghost use mathlib.Core.Path.{_≡_};
 ghost use Rattle.refusal.specs.Rules.{first, checked};
 ghost use Rattle.node.specs.Actions.{effect, joinRules, joining, joinRequest, joinOf};
-use crate::Kind;
-use crate::Link;
-use crate::Message;
 use crate::Node;
 use crate::Outcome;
 use crate::Peer;
-use crate::Status;
 use crate::Step;
 use crate::shape;
 use crate::steps;
+use parts::Kind;
+use parts::Link;
+use parts::Message;
+use parts::Status;
 use refusal::Check;
 use refusal::Refusal;
 

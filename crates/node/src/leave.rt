@@ -2,14 +2,14 @@
 ghost use mathlib.Core.Path.{_≡_};
 ghost use Rattle.refusal.specs.Rules.{first, checked};
 ghost use Rattle.node.specs.Actions.{effect, leaveRules, leaveRequest, leaveOf};
-use crate::Kind;
-use crate::Message;
 use crate::Node;
 use crate::Outcome;
-use crate::Status;
 use crate::Step;
 use crate::shape;
 use crate::steps;
+use parts::Kind;
+use parts::Message;
+use parts::Status;
 use refusal::Check;
 use refusal::Refusal;
 use sequence::Number;

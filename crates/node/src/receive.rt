@@ -2,8 +2,6 @@
 ghost use mathlib.Core.Path.{_≡_};
 ghost use Rattle.refusal.specs.Rules.{first, checked};
 ghost use Rattle.node.specs.Actions.{effect, receiveRules, setR, setRAck, setRNak, setL, actOf, receiveOf};
-use crate::Kind;
-use crate::Message;
 use crate::Node;
 use crate::Outcome;
 use crate::Step;
@@ -12,6 +10,8 @@ use crate::set_l;
 use crate::set_r;
 use crate::shape;
 use crate::steps;
+use parts::Kind;
+use parts::Message;
 use refusal::Check;
 use refusal::Refusal;
 use sequence::Number;

@@ -1,11 +1,11 @@
 // SetL: a notice of a new left link.
 ghost use mathlib.Core.Path.{_≡_};
 ghost use Rattle.node.specs.Actions.{effect, onSetL};
-use crate::Link;
 use crate::Node;
 use crate::Outcome;
 use crate::Step;
 use crate::steps;
+use parts::Link;
 use sequence::Number;
 
 pub fn on_set_l(node: Node, left: u8, number: Number) -> Step

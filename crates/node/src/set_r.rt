@@ -1,16 +1,16 @@
 // SetR: a node grants or denies a request to change its right link.
 ghost use mathlib.Core.Path.{_≡_};
 ghost use Rattle.node.specs.Actions.{effect, grants, wouldGrant, granting, onSetR};
-use crate::Kind;
-use crate::Link;
-use crate::Message;
 use crate::Node;
 use crate::Outcome;
-use crate::Posts;
-use crate::Seq;
 use crate::Step;
 use crate::Verdict;
 use crate::steps;
+use parts::Kind;
+use parts::Link;
+use parts::Message;
+use parts::Posts;
+use parts::Seq;
 use sequence::Number;
 
 fn grants_request(node: Node, sender: u8, new: u8, expected: u8) -> bool
