@@ -5,8 +5,8 @@ use mathlib.Core.Bool.{Bool, cond}
 use lib.ListN.{take}
 use Rattle.truth.specs.Tests.{any, wordBelow}
 use Rattle.interval.specs.Interval.{within}
-use Rattle.node.specs.declared.Link.{Link}
-use Rattle.node.specs.declared.Link.the-variants.{Unlinked, To}
+use Rattle.parts.specs.declared.Link.{Link}
+use Rattle.parts.specs.declared.Link.the-variants.{Unlinked, To}
 use Rattle.node.specs.Shape.{capacity}
 use Rattle.protocol.specs.State.{queueLimit, isAckTo, isInserted}
 use Rattle.protocol.specs.Questions.{Walk, found, lost}
