@@ -21,8 +21,8 @@ use network::CAPACITY;
 use network::Network;
 use network::QUEUE_LIMIT;
 use network::VACANT_MESSAGE;
-use parts::Message;
 use node::Node;
+use parts::Message;
 use parts::Posts;
 
 fn add(network: Network, node: Node) -> Network

@@ -13,8 +13,8 @@ use crate::Found;
 use network::CAPACITY;
 use network::Network;
 use network::QUEUE_LIMIT;
-use parts::Message;
 use node::Node;
+use parts::Message;
 use protocol::Order;
 
 fn all_out(nodes: [Node; 32], count: usize) -> bool
