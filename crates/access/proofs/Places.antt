@@ -32,26 +32,26 @@ use borrow.Table.OneValue.{part-in, part-out}
 use borrow.Struct.Way.{Cut}
 use borrow.Struct.Behind.{look-at, put-at}
 use borrow.Struct.Items.{cut-records}
-use Rattle.node.specs.declared.Kind.the-variants.{SetRNak}
+use Rattle.parts.specs.declared.Kind.the-variants.{SetRNak}
 use Rattle.node.specs.declared.Node.{Node}
-use Rattle.node.specs.declared.Message.{Message}
+use Rattle.parts.specs.declared.Message.{Message}
 use Rattle.network.specs.declared.Network.{Network}
-use Rattle.node.specs.declared.Posts.{Posts}
-use Rattle.node.specs.declared.Posts.the-variants as posts-are
+use Rattle.parts.specs.declared.Posts.{Posts}
+use Rattle.parts.specs.declared.Posts.the-variants as posts-are
 use Rattle.access.specs.declared.Change.{Change}
 use Rattle.access.specs.declared.Change.the-variants as change-is
 use Rattle.network.specs.Arrays.{vacantNode, vacantMessage}
 use Rattle.access.specs.Changes.{placed}
 use Rattle.node.proofs.Node as node
 use Rattle.node.proofs.Node.Laws as node-laws
-use Rattle.node.proofs.Kind as kind
-use Rattle.node.proofs.Kind.Laws as kind-laws
-use Rattle.node.proofs.Message as msg
-use Rattle.node.proofs.Message.Laws as msg-laws
+use Rattle.parts.proofs.Kind as kind
+use Rattle.parts.proofs.Kind.Laws as kind-laws
+use Rattle.parts.proofs.Message as msg
+use Rattle.parts.proofs.Message.Laws as msg-laws
 use Rattle.network.proofs.Network as net
 use Rattle.network.proofs.Network.Laws as net-laws
-use Rattle.node.proofs.Posts as posts
-use Rattle.node.proofs.Posts.Laws as posts-laws
+use Rattle.parts.proofs.Posts as posts
+use Rattle.parts.proofs.Posts.Laws as posts-laws
 use Rattle.access.proofs.Change as change
 use Rattle.access.proofs.Change.Laws as change-laws
 use Rattle.access.proofs.Data.{Data, of-struct, of-enum}

@@ -22,9 +22,9 @@ use denote.Memory.{lone}
 use denote.Index.{place}
 use denote.Struct.Laws as struct
 use Rattle.node.specs.declared.Node.{Node}
-use Rattle.node.specs.declared.Message.{Message}
+use Rattle.parts.specs.declared.Message.{Message}
 use Rattle.node.proofs.Node as node
-use Rattle.node.proofs.Message as msg
+use Rattle.parts.proofs.Message as msg
 use Rattle.protocol.specs.declared.Order.{Order}
 use Rattle.protocol.proofs.Order as order
 use Rattle.protocol.proofs.Order.Laws as order-laws

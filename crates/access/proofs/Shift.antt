@@ -7,7 +7,7 @@ use native.Mathlib.Omega.{arith}
 use native.Mathlib.Numerals.{add-one}
 use lib.ListN.{length, take, drop, getD, set, length-append, length-take, length-drop, take-append-drop, drop-of-length-le}
 use lib.Seq.{set-at, getD-append-add, take-suc, take-take, take-append-le, drop-append-le, drop-cons, getD-drop, length-take-le}
-use Rattle.node.specs.declared.Message.{Message}
+use Rattle.parts.specs.declared.Message.{Message}
 use Rattle.protocol.specs.Calls.{without}
 
 pub length-without : (place : ℕ) (ms : List Message) → place < length ms → length ms ≡ suc (length (without place ms))

@@ -7,7 +7,7 @@ use native.Mathlib.Omega.{arith}
 use lib.ListN.{length, set, take, drop, replicate, length-append, length-set}
 use lib.Seq.{set-append-left, set-append-seam, take-append-seam, drop-append-seam}
 use Rattle.node.specs.declared.Node.{Node}
-use Rattle.node.specs.declared.Message.{Message}
+use Rattle.parts.specs.declared.Message.{Message}
 use Rattle.node.specs.Shape.{capacity}
 use Rattle.protocol.specs.State.{State, queueLimit}
 use Rattle.protocol.specs.Calls.{without}

@@ -6,9 +6,9 @@ use mathlib.Core.List.{List, [], _∷_, _++_}
 use lib.ListN.{length, set, take, drop}
 use lib.Dec.{ltb, leb}
 use Rattle.node.specs.declared.Node.{Node}
-use Rattle.node.specs.declared.Message.{Message}
+use Rattle.parts.specs.declared.Message.{Message}
 use Rattle.node.specs.Shape.{capacity}
-use Rattle.node.specs.Actions.{posted as listed}
+use Rattle.parts.specs.Posts.{posted as listed}
 use Rattle.protocol.specs.State.{queueLimit}
 use Rattle.protocol.specs.Calls.{without}
 use Rattle.network.specs.declared.Network.{Network}

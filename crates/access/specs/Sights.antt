@@ -6,9 +6,9 @@ use lib.Dec.{leb, eqb}
 use Prim.Native.Nat.{_%_}
 use Rattle.truth.specs.Tests.{everyBelow, any}
 use Rattle.node.specs.declared.Node.{Node}
-use Rattle.node.specs.declared.Message.{Message}
+use Rattle.parts.specs.declared.Message.{Message}
 use Rattle.node.specs.Shape.{capacity}
-use Rattle.node.specs.Tests.{isOut}
+use Rattle.parts.specs.Tests.{isOut}
 use Rattle.protocol.specs.declared.Order.{Order}
 use Rattle.protocol.specs.declared.Order.the-variants.{Declare, Create, Join, Leave}
 use Rattle.protocol.specs.State.{queueLimit, isNoticeTo}

@@ -6,7 +6,7 @@ ghost use mathlib.Core.Bool.{_&&_, cond};
 ghost use Prim.Native.Nat.{_+_, _-_, _<_, _≤_};
 ghost use lib.ListN.{length, take, drop};
 ghost use lib.Dec.{leb, ltb};
-ghost use Rattle.node.specs.Actions.{posted as listed};
+ghost use Rattle.parts.specs.Posts.{posted as listed};
 ghost use Rattle.protocol.specs.Calls.{without};
 ghost use Rattle.protocol.specs.State.{queueLimit};
 ghost use Rattle.network.specs.Arrays.{vacantMessage};
@@ -21,9 +21,9 @@ use network::CAPACITY;
 use network::Network;
 use network::QUEUE_LIMIT;
 use network::VACANT_MESSAGE;
-use node::Message;
 use node::Node;
-use node::Posts;
+use parts::Message;
+use parts::Posts;
 
 fn add(network: Network, node: Node) -> Network
     requires { ⌜ network .count < 32 ⌝ }

@@ -3,7 +3,7 @@
 ghost use mathlib.Core.Path.{_≡_};
 ghost use Prim.Native.Nat.{_+_, _<_, _≤_};
 ghost use lib.ListN.{length};
-ghost use Rattle.node.specs.Actions.{posted as listed};
+ghost use Rattle.parts.specs.Posts.{posted as listed};
 ghost use Rattle.access.specs.Changes.{placed, added, closed, allPosted, written, committed};
 ghost use Rattle.access.specs.Sights.{sightOf, arrivalOf, foundOf};
 use crate::Arrival;
@@ -18,7 +18,7 @@ use network::Network;
 use network::QUEUE_LIMIT;
 use network::VACANT_MESSAGE;
 use node::Node;
-use node::Posts;
+use parts::Posts;
 use protocol::Order;
 
 fn place_node(network: &mut Network, number: u8, node: Node)

@@ -1,9 +1,9 @@
 // How the arrays of a network are read and written, by value and where they lie. No rule stands here: what a call's rules look at is read out
 // (`Sight`, `Found`), and what they decide is carried out (`Change`). Each public function takes any network and any numbers; by value and behind
 // a reference they have the same definitions.
-use node::Message;
 use node::Node;
-use node::Posts;
+use parts::Message;
+use parts::Posts;
 
 mod by_value;
 mod in_place;

@@ -5,7 +5,7 @@ ghost use Prim.Native.Nat.{_≤_};
 ghost use lib.ListN.{getD, take};
 ghost use lib.Dec.{eqb};
 ghost use Rattle.truth.specs.Tests.{everyBelow, any};
-ghost use Rattle.node.specs.Tests.{isOut};
+ghost use Rattle.parts.specs.Tests.{isOut};
 ghost use Rattle.protocol.specs.State.{isNoticeTo};
 ghost use Rattle.network.specs.Arrays.{vacantNode};
 ghost use Rattle.access.specs.Sights.{least, asks, nothingFound, foundOf};
@@ -13,8 +13,8 @@ use crate::Found;
 use network::CAPACITY;
 use network::Network;
 use network::QUEUE_LIMIT;
-use node::Message;
 use node::Node;
+use parts::Message;
 use protocol::Order;
 
 fn all_out(nodes: [Node; 32], count: usize) -> bool

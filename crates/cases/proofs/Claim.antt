@@ -6,7 +6,8 @@ use native.Mathlib.Omega.{arith}
 use borrow.Author.Tests.{lt-ltb, le-ltb}
 use Rattle.interval.specs.Interval.{between}
 use Rattle.sequence.specs.Sequence.{Number, firstSeq, lastSeq, nextSeq, newer, hasNext, cappedNext}
-use Rattle.node.specs.Shape.{nodeFits, messageFits, wellFormed, deliverable}
+use Rattle.parts.specs.Shape.{messageFits}
+use Rattle.node.specs.Shape.{nodeFits, wellFormed, deliverable}
 use Rattle.node.specs.declared.Outcome.the-variants.{LeftOld}
 use Rattle.node.specs.Actions.{setL, quiet, grants, leaveOf, receiveOf}
 use Rattle.cases.specs.Table.{AllHold, table, node0}

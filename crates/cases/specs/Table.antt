@@ -9,9 +9,9 @@ use Rattle.refusal.specs.Rules.{done, no}
 use Rattle.serial.specs.Serial.{coded, packedOf, binaryOf}
 use Rattle.interval.specs.Interval.{between}
 use Rattle.sequence.specs.Sequence.{Number, nextSeq}
-use Rattle.node.specs.declared.Status.the-variants.{Out, In}
-use Rattle.node.specs.declared.Link.the-variants.{To}
-use Rattle.node.specs.declared.Seq.the-variants.{Is}
+use Rattle.parts.specs.declared.Status.the-variants.{Out, In}
+use Rattle.parts.specs.declared.Link.the-variants.{To}
+use Rattle.parts.specs.declared.Seq.the-variants.{Is}
 use Rattle.node.specs.declared.Node.{Node}
 use Rattle.node.specs.declared.Outcome.the-variants.{LeftAlone, LeftSet, LeftOld, Dropped, Denied}
 use Rattle.node.specs.Shape.{declaredOf}

@@ -14,8 +14,8 @@ use Rattle.truth.proofs.TestLaws.{decided, is-true}
 use Rattle.refusal.specs.Code.{Reason}
 use Rattle.refusal.specs.Rules.{no, _when_, first, settled}
 use Rattle.serial.specs.Serial.{coded}
-use Rattle.node.specs.declared.Message.{Message}
-use Rattle.node.specs.Tests.{isRequest}
+use Rattle.parts.specs.declared.Message.{Message}
+use Rattle.parts.specs.Tests.{isRequest}
 use Rattle.protocol.specs.declared.Order.the-variants.{Declare as DeclareOrder}
 use Rattle.protocol.specs.declared.Call.the-variants.{Order, Deliver}
 use Rattle.protocol.specs.State.{State, wellFormed}

@@ -10,7 +10,7 @@ use Rattle.refusal.specs.Code.{Reason, plain}
 use Rattle.refusal.specs.Rules.{Coded, done, no, Rule, _when_, first, settled, ruled}
 use Rattle.serial.specs.Serial.{inRange}
 use Rattle.node.specs.declared.Node.{Node}
-use Rattle.node.specs.declared.Message.{Message}
+use Rattle.parts.specs.declared.Message.{Message}
 use Rattle.node.specs.Shape.{declaredOf, capacity}
 use Rattle.node.specs.Actions.{Effect, createOf, joinOf, leaveOf, actOf}
 use Rattle.protocol.specs.declared.Order.{Order}

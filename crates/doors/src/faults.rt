@@ -1,11 +1,11 @@
 // A network that is well formed, and the same with one thing wrong at a time.
 use network::Network;
-use node::Kind;
-use node::Link;
-use node::Message;
 use node::Node;
-use node::Seq;
-use node::Status;
+use parts::Kind;
+use parts::Link;
+use parts::Message;
+use parts::Seq;
+use parts::Status;
 use protocol::Call;
 use protocol::Order;
 

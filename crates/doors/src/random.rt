@@ -1,12 +1,12 @@
 // Networks with fields made by chance, from a pseudo-random sequence (xorshift of 32 bits).
 use network::Network;
 use network::VACANT_MESSAGE;
-use node::Kind;
-use node::Link;
-use node::Message;
 use node::Node;
-use node::Seq;
-use node::Status;
+use parts::Kind;
+use parts::Link;
+use parts::Message;
+use parts::Seq;
+use parts::Status;
 
 pub(crate) struct Drawn {
     pub(crate) network: Network,

@@ -1,11 +1,11 @@
 // Whether two networks are the same, field by field.
 use network::Network;
-use node::Kind;
-use node::Link;
-use node::Message;
 use node::Node;
-use node::Seq;
-use node::Status;
+use parts::Kind;
+use parts::Link;
+use parts::Message;
+use parts::Seq;
+use parts::Status;
 
 fn status_number(status: Status) -> u32 {
     match status {

@@ -20,9 +20,9 @@ use Rattle.refusal.specs.Rules.{Coded, done, no, Rule, _when_, first, settled}
 use Rattle.refusal.proofs.Laws.{cleared}
 use Rattle.serial.specs.Serial.{inRange}
 use Rattle.node.specs.declared.Node.{Node}
-use Rattle.node.specs.declared.Message.{Message}
+use Rattle.parts.specs.declared.Message.{Message}
 use Rattle.node.specs.Shape.{declaredOf, capacity}
-use Rattle.node.specs.Tests.{isOut}
+use Rattle.parts.specs.Tests.{isOut}
 use Rattle.node.specs.Actions.{Effect, createOf, joinOf, leaveOf, actOf, wouldGrant}
 use Rattle.protocol.specs.declared.Call.{Call}
 use Rattle.protocol.specs.declared.Order.the-variants.{Declare, Create, Join, Leave}

@@ -4,9 +4,9 @@ use mathlib.Core.Path.{_≡_, refl}
 use mathlib.Core.List.{List, [], _∷_}
 use lib.ListN.{replicate}
 use Rattle.sequence.specs.Sequence.{firstSeq, same}
-use Rattle.node.specs.declared.Status.the-variants.{In}
-use Rattle.node.specs.declared.Link.the-variants.{To}
-use Rattle.node.specs.declared.Seq.the-variants.{Is}
+use Rattle.parts.specs.declared.Status.the-variants.{In}
+use Rattle.parts.specs.declared.Link.the-variants.{To}
+use Rattle.parts.specs.declared.Seq.the-variants.{Is}
 use Rattle.node.specs.declared.Node.{Node}
 use Rattle.node.specs.Shape.{nodeFits, wellFormed as nodeIsSound}
 use Rattle.node.specs.Actions.{createOf}

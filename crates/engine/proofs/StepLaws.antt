@@ -16,19 +16,20 @@ use Rattle.refusal.specs.Code.{Reason}
 use Rattle.refusal.specs.Rules.{done, Rule, _when_, first, settled, ruled}
 use Rattle.refusal.proofs.Laws.{first-append, cleared}
 use Rattle.sequence.specs.Sequence.{newer, nextSeq}
-use Rattle.node.specs.declared.Status.{Status}
-use Rattle.node.specs.declared.Status.the-variants.{Out, Ins, In, Del}
+use Rattle.parts.specs.declared.Status.{Status}
+use Rattle.parts.specs.declared.Status.the-variants.{Out, Ins, In, Del}
 use Rattle.node.specs.declared.Node.{Node}
 use Rattle.node.specs.declared.Peer.{Peer}
-use Rattle.node.specs.declared.Kind.{Kind}
-use Rattle.node.specs.declared.Kind.the-variants.{SetR, SetRAck, SetRNak, SetL}
-use Rattle.node.specs.declared.Message.{Message}
-use Rattle.node.specs.declared.Posts.{Posts}
-use Rattle.node.specs.declared.Posts.the-variants.{Nothing, One, Two}
+use Rattle.parts.specs.declared.Kind.{Kind}
+use Rattle.parts.specs.declared.Kind.the-variants.{SetR, SetRAck, SetRNak, SetL}
+use Rattle.parts.specs.declared.Message.{Message}
+use Rattle.parts.specs.declared.Posts.{Posts}
+use Rattle.parts.specs.declared.Posts.the-variants.{Nothing, One, Two}
 use Rattle.node.specs.declared.Outcome.{Outcome}
 use Rattle.node.specs.declared.Outcome.the-variants.{Waiting, LeftAlone}
-use Rattle.node.specs.Tests.{isOut, isIn, seqOf}
-use Rattle.node.specs.Actions.{Effect, posted, refused, quiet, posting, withStatus, createRules, creating, createOf, joinRules, asking, joinOf, alone, leaveRules, leaveRequest, leaving, leaveOf, onSetRAck, onSetRNak, onKind, actOf, wouldGrant}
+use Rattle.parts.specs.Tests.{isOut, isIn, seqOf}
+use Rattle.parts.specs.Posts.{posted}
+use Rattle.node.specs.Actions.{Effect, refused, quiet, posting, withStatus, createRules, creating, createOf, joinRules, asking, joinOf, alone, leaveRules, leaveRequest, leaving, leaveOf, onSetRAck, onSetRNak, onKind, actOf, wouldGrant}
 use Rattle.node.proofs.ActionLaws.{granted, join-accepted, leave-alone-accepted, leave-accepted}
 use Rattle.protocol.specs.State.{State, queueLimit, declared, nodeAt, noticeWaits, wellFormed}
 use Rattle.protocol.specs.Calls.{isFull, peerAt, joinRules as joinCallRules, leaveRules as leaveCallRules, messageAt, isGrantable, deliverRules, receiving}

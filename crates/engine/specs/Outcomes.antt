@@ -6,7 +6,7 @@ use mathlib.Core.List.{List, [], _∷_}
 use lib.ListN.{length}
 use Rattle.refusal.specs.Code.{Reason, plain}
 use Rattle.refusal.specs.Rules.{Coded, no}
-use Rattle.node.specs.declared.Message.{Message}
+use Rattle.parts.specs.declared.Message.{Message}
 use Rattle.protocol.specs.declared.Call.{Call}
 use Rattle.protocol.specs.declared.Reply.{Reply}
 use Rattle.protocol.specs.Calls.{Result, applyOf as applyToLists}

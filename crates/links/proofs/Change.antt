@@ -6,8 +6,8 @@ use mathlib.Core.List.{List, [], _∷_, _++_}
 use Prim.Native.Nat.{ℕ, _<_, _≤_}
 use native.Mathlib.Omega.{arith}
 use Rattle.interval.proofs.Laws.{Between, inside, above, below}
-use Rattle.node.specs.declared.Link.{Link}
-use Rattle.node.specs.declared.Link.the-variants.{To}
+use Rattle.parts.specs.declared.Link.{Link}
+use Rattle.parts.specs.declared.Link.the-variants.{To}
 use Rattle.truth.proofs.TestLaws.{_∈_}
 use Rattle.links.proofs.Ring.{here, there, in-right, Ascending, first, Trail, Links, Ring, With, Without}
 use Rattle.links.proofs.Lists.{cut, each-nil, each-cons, swapped, adds-first, adds-between, adds-behind}

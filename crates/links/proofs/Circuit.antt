@@ -8,8 +8,8 @@ use Prim.Native.Nat.{ℕ, _≤_}
 use native.Mathlib.Omega.{arith}
 use lib.ListN.{length}
 use borrow.Author.Tests.{le-leb, lt-leb}
-use Rattle.node.specs.declared.Link.{Link}
-use Rattle.node.specs.declared.Link.the-variants.{To}
+use Rattle.parts.specs.declared.Link.{Link}
+use Rattle.parts.specs.declared.Link.the-variants.{To}
 use Rattle.truth.specs.Tests.{count}
 use Rattle.truth.proofs.TestLaws.{_∈_, bit-true, bit-false}
 use Rattle.links.specs.Walk.{move, walk, falls, Circuit, Predecessor}

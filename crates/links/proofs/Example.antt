@@ -8,8 +8,8 @@ use lib.ListN.{getD}
 use lib.Dec.{lit<}
 use native.Mathlib.Omega.{arith}
 use Rattle.interval.proofs.Laws.{inside}
-use Rattle.node.specs.declared.Link.{Link}
-use Rattle.node.specs.declared.Link.the-variants.{Unlinked, To}
+use Rattle.parts.specs.declared.Link.{Link}
+use Rattle.parts.specs.declared.Link.the-variants.{Unlinked, To}
 use Rattle.truth.proofs.TestLaws.{_∈_}
 use Rattle.links.specs.Walk.{after, walk, times, falls, Circuit, Predecessor}
 use Rattle.links.proofs.Ring.{here, there, in-nil, in-cons, Ring, With, Without}

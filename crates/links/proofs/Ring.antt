@@ -8,7 +8,7 @@ pub use mathlib.Core.List.{List·Memᴰ·not-nil as in-nil, List·Memᴰ·eq-of-
 pub use mathlib.Core.List.{Memᴰ·append-left as in-left, Memᴰ·append-right as in-right}
 use Prim.Native.Nat.{ℕ}
 use Rattle.truth.proofs.TestLaws.{_∈_}
-use Rattle.node.specs.declared.Link.{Link}
+use Rattle.parts.specs.declared.Link.{Link}
 pub use Rattle.links.specs.Ring.{Ascending, first, Trail, Links, Ring}
 
 -- a ring of L and u

@@ -4,8 +4,8 @@ use mathlib.Core.Path.{_≡_, refl, ap, _∙_}
 use mathlib.Core.List.{List, [], _∷_, _++_, append-nil}
 use Prim.Native.Nat.{ℕ}
 use lib.ListN.{length}
-use Rattle.node.specs.declared.Link.{Link}
-use Rattle.node.specs.declared.Link.the-variants.{To}
+use Rattle.parts.specs.declared.Link.{Link}
+use Rattle.parts.specs.declared.Link.the-variants.{To}
 use Rattle.truth.proofs.TestLaws.{_∈_}
 use Rattle.links.specs.Walk.{endOf, move, after, walk}
 use Rattle.links.proofs.Ring.{here, there, first, Trail, Links}

@@ -5,8 +5,8 @@ use mathlib.Core.List.{List, [], _∷_}
 use Prim.Native.Nat.{ℕ, zero, suc}
 use lib.Dec.{eqb, leb}
 use Rattle.truth.specs.Tests.{count}
-use Rattle.node.specs.declared.Link.{Link}
-use Rattle.node.specs.declared.Link.the-variants.{Unlinked, To}
+use Rattle.parts.specs.declared.Link.{Link}
+use Rattle.parts.specs.declared.Link.the-variants.{Unlinked, To}
 
 -- ---- the walk
 -- where a link of s leads; s itself where there is none

@@ -7,8 +7,8 @@ use native.Mathlib.Omega.{arith}
 use lib.ListN.{length, getD}
 use Rattle.truth.proofs.WordLaws.{words-agree}
 use Rattle.interval.specs.Interval.{within}
-use Rattle.node.specs.declared.Link.{Link}
-use Rattle.node.specs.declared.Link.the-variants.{Unlinked, To}
+use Rattle.parts.specs.declared.Link.{Link}
+use Rattle.parts.specs.declared.Link.the-variants.{Unlinked, To}
 use Rattle.node.specs.declared.Node.{Node}
 use Rattle.node.specs.Shape.{capacity}
 use Rattle.protocol.specs.State.{queueLimit, nodeAt, isInserted, inserted, ackWaits as ackWaitsInLists}

@@ -16,10 +16,10 @@ use Rattle.truth.specs.Tests.{any, wordBelow}
 use Rattle.truth.proofs.Laws.{by-test}
 use Rattle.truth.proofs.WordLaws.{words-agree, word-with, word-without, word-or}
 use Rattle.interval.specs.Interval.{within}
-use Rattle.node.specs.declared.Link.{Link}
-use Rattle.node.specs.declared.Link.the-variants.{Unlinked, To}
+use Rattle.parts.specs.declared.Link.{Link}
+use Rattle.parts.specs.declared.Link.the-variants.{Unlinked, To}
+use Rattle.parts.specs.declared.Message.{Message}
 use Rattle.node.specs.declared.Node.{Node}
-use Rattle.node.specs.declared.Message.{Message}
 use Rattle.node.specs.Shape.{capacity}
 use Rattle.protocol.specs.State.{queueLimit, isAckTo, isInserted}
 use Rattle.protocol.specs.Questions.{Walk, found, lost}

@@ -11,9 +11,9 @@ use Rattle.serial.specs.declared.Serial.{Serial}
 use Rattle.serial.specs.declared.Serial.the-variants.{Value, BadDigit, TooLarge}
 use Rattle.serial.specs.Serial.{inRange}
 use Rattle.interval.specs.Interval.{within}
+use Rattle.parts.specs.declared.Link.{Link}
+use Rattle.parts.specs.declared.Link.the-variants.{Unlinked, To}
 use Rattle.protocol.specs.declared.Reply.{Reply}
-use Rattle.node.specs.declared.Link.{Link}
-use Rattle.node.specs.declared.Link.the-variants.{Unlinked, To}
 use Rattle.node.specs.Shape.{capacity}
 use Rattle.protocol.specs.State.{queueLimit, isAckTo, isInserted}
 use Rattle.protocol.specs.Questions.{Walk, found, lost, walked}

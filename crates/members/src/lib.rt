@@ -17,9 +17,9 @@ ghost use Rattle.members.specs.Members.{memberIn, wordOf, walkFrom, owne
 use network::CAPACITY;
 use network::Network;
 use network::QUEUE_LIMIT;
-use node::Link;
-use node::Message;
-use node::Status;
+use parts::Link;
+use parts::Message;
+use parts::Status;
 use protocol::Answer;
 use protocol::Reply;
 use refusal::Refusal;

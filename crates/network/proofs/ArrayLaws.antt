@@ -14,16 +14,16 @@ use Rattle.truth.proofs.Laws.{both, true-is-not-false}
 use Rattle.truth.proofs.TestLaws.{holds, is-true}
 use Rattle.sequence.specs.Sequence.{firstSeq, same}
 use Rattle.sequence.proofs.Laws.{same-iff}
-use Rattle.node.specs.declared.Link.{Link}
-use Rattle.node.specs.declared.Link.the-variants.{Unlinked, To}
-use Rattle.node.specs.declared.Seq.{Seq}
-use Rattle.node.specs.declared.Seq.the-variants.{Unset, Is}
+use Rattle.parts.specs.declared.Link.{Link}
+use Rattle.parts.specs.declared.Link.the-variants.{Unlinked, To}
+use Rattle.parts.specs.declared.Seq.{Seq}
+use Rattle.parts.specs.declared.Seq.the-variants.{Unset, Is}
+use Rattle.parts.specs.declared.Kind.{Kind}
+use Rattle.parts.specs.declared.Kind.the-variants.{SetR, SetRAck, SetRNak, SetL}
+use Rattle.parts.specs.declared.Message.{Message}
+use Rattle.parts.specs.Tests.{isOut, linked, numbered, isNak}
 use Rattle.node.specs.declared.Node.{Node}
-use Rattle.node.specs.declared.Kind.{Kind}
-use Rattle.node.specs.declared.Kind.the-variants.{SetR, SetRAck, SetRNak, SetL}
-use Rattle.node.specs.declared.Message.{Message}
 use Rattle.node.specs.Shape.{capacity}
-use Rattle.node.specs.Tests.{isOut, linked, numbered, isNak}
 use Rattle.node.proofs.ActionLaws.{tested-out}
 use Rattle.protocol.specs.State.{State, queueLimit, wellFormed as listsAreWellFormed}
 use Rattle.protocol.proofs.Facts.{formed as lists-formed}

@@ -14,8 +14,9 @@ use borrow.Author.Tests.{ltb-true, ltb-false, le-leb, lt-leb}
 use Rattle.truth.specs.Tests.{count, every, everyBelow}
 use Rattle.truth.proofs.Laws.{both, not-left, true-is-not-false}
 use Rattle.truth.proofs.TestLaws.{decided, every-in, all-pass, below-agree, below-both}
+use Rattle.parts.specs.Shape.{messageFits}
 use Rattle.node.specs.declared.Node.{Node}
-use Rattle.node.specs.Shape.{nodeFits, messageFits, capacity}
+use Rattle.node.specs.Shape.{nodeFits, capacity}
 use Rattle.node.proofs.FitLaws.{message-fits-more}
 use Rattle.protocol.specs.State.{queueLimit, keyIsNew, keyAt, isDealingOf, dealings, statusAt, nodeAt, wellFormed as listsAreWellFormed}
 use Rattle.protocol.proofs.Moves.{unconcerned}

@@ -16,13 +16,13 @@ use borrow.Author.Tests.{eq-eqb, ne-eqb, le-leb, lt-leb}
 use Rattle.truth.specs.Tests.{bit, count, everyBelow}
 use Rattle.truth.proofs.Laws.{or-false}
 use Rattle.truth.proofs.TestLaws.{count-take, below-all, below-fails, bit-true, bit-false}
-use Rattle.node.specs.declared.Link.{Link}
-use Rattle.node.specs.declared.Link.the-variants.{Unlinked, To}
-use Rattle.node.specs.declared.Kind.{Kind}
-use Rattle.node.specs.declared.Kind.the-variants.{SetR, SetRAck, SetRNak, SetL}
-use Rattle.node.specs.declared.Message.{Message}
-use Rattle.node.specs.Shape.{linkFits, messageFits}
-use Rattle.node.specs.Tests.{linksTo, isRequest, isAnswer}
+use Rattle.parts.specs.declared.Link.{Link}
+use Rattle.parts.specs.declared.Link.the-variants.{Unlinked, To}
+use Rattle.parts.specs.declared.Kind.{Kind}
+use Rattle.parts.specs.declared.Kind.the-variants.{SetR, SetRAck, SetRNak, SetL}
+use Rattle.parts.specs.declared.Message.{Message}
+use Rattle.parts.specs.Shape.{linkFits, messageFits}
+use Rattle.parts.specs.Tests.{linksTo, isRequest, isAnswer}
 use Rattle.node.proofs.FitLaws.{message-facts}
 use Rattle.protocol.specs.State.{isDealingOf}
 use Rattle.network.specs.Walks.{dealerBy}

@@ -7,7 +7,7 @@ use native.Mathlib.Omega.{arith}
 use lib.ListN.{length, getD}
 use lib.Seq.{length-take-le, getD-take}
 use borrow.Author.Tests.{ltb-true}
-use Rattle.node.specs.declared.Link.the-variants.{To}
+use Rattle.parts.specs.declared.Link.the-variants.{To}
 use Rattle.node.specs.declared.Node.{Node}
 use Rattle.protocol.specs.State.{nodeAt, rightAt}
 use Rattle.protocol.proofs.Facts.{WellFormed as ListsWellFormed, formed as lists-formed}

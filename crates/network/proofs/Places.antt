@@ -12,8 +12,8 @@ use lib.Seq.{take-length, take-take, getD-drop, getD-set-same, getD-set-other}
 use borrow.Author.Tests.{lt-ltb, le-ltb}
 use Rattle.truth.specs.Tests.{count, every, everyBelow}
 use Rattle.truth.proofs.TestLaws.{every-take, count-more, below-at, below-all, below-agree}
-use Rattle.node.specs.declared.Kind.the-variants.{SetR}
-use Rattle.node.specs.declared.Message.{Message}
+use Rattle.parts.specs.declared.Kind.the-variants.{SetR}
+use Rattle.parts.specs.declared.Message.{Message}
 use Rattle.network.specs.Walks.{placeFits, everyPlace}
 
 -- ---- reading and storing

@@ -7,10 +7,10 @@ use lib.ListN.{length, take, drop, replicate}
 use lib.Dec.{leb, eqb}
 use Rattle.truth.specs.Tests.{every}
 use Rattle.sequence.specs.Sequence.{firstSeq, same}
+use Rattle.parts.specs.declared.Message.{Message}
+use Rattle.parts.specs.Tests.{isOut, linked, numbered, isNak}
 use Rattle.node.specs.declared.Node.{Node}
-use Rattle.node.specs.declared.Message.{Message}
 use Rattle.node.specs.Shape.{declaredOf, capacity}
-use Rattle.node.specs.Tests.{isOut, linked, numbered, isNak}
 use Rattle.node.specs.Actions.{setRNak}
 use Rattle.protocol.specs.State.{State, queueLimit, empty as emptyLists, wellFormed as listsAreWellFormed}
 use Rattle.network.specs.declared.Network.{Network}

@@ -6,11 +6,11 @@ use mathlib.Core.Bool.{Bool, cond}
 use lib.ListN.{length, getD}
 use lib.Dec.{ltb}
 use Rattle.truth.specs.Tests.{everyBelow}
-use Rattle.node.specs.declared.Link.{Link}
-use Rattle.node.specs.declared.Link.the-variants.{Unlinked, To}
-use Rattle.node.specs.declared.Kind.{Kind}
-use Rattle.node.specs.declared.Kind.the-variants.{SetR, SetRAck, SetRNak, SetL}
-use Rattle.node.specs.declared.Message.{Message}
+use Rattle.parts.specs.declared.Link.{Link}
+use Rattle.parts.specs.declared.Link.the-variants.{Unlinked, To}
+use Rattle.parts.specs.declared.Kind.{Kind}
+use Rattle.parts.specs.declared.Kind.the-variants.{SetR, SetRAck, SetRNak, SetL}
+use Rattle.parts.specs.declared.Message.{Message}
 
 -- a place of an array l that holds n things: before n it passes one test, and past it another
 abbrev pub placeFits : {A : Type 0} → (A → Bool) → (A → Bool) → A → List A → ℕ → ℕ → Bool

@@ -2,12 +2,12 @@
 // lists the arrays hold; the calls on a network, and the questions it is asked, stand in crates above.
 ghost use mathlib.Core.Path.{_≡_};
 ghost use Rattle.network.specs.Arrays.{empty};
-use node::Kind;
-use node::Link;
-use node::Message;
 use node::Node;
-use node::Seq;
-use node::Status;
+use parts::Kind;
+use parts::Link;
+use parts::Message;
+use parts::Seq;
+use parts::Status;
 
 mod shape;
 

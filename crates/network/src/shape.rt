@@ -5,18 +5,19 @@ ghost use Prim.Native.Nat.{ℕ, _<_, _≤_};
 ghost use lib.ListN.{length, getD, take};
 ghost use lib.Dec.{leb, eqb};
 ghost use Rattle.truth.specs.Tests.{count, every, everyBelow};
-ghost use Rattle.node.specs.Shape.{nodeFits, messageFits};
+ghost use Rattle.parts.specs.Shape.{messageFits};
+ghost use Rattle.node.specs.Shape.{nodeFits};
 ghost use Rattle.protocol.specs.State.{isDealingOf, dealings};
 ghost use Rattle.network.specs.Arrays.{vacantNode, vacantMessage, isVacantNode, isVacantMessage, wellFormed};
 ghost use Rattle.network.specs.Walks.{everyPlace, dealerBy};
 use crate::CAPACITY;
 use crate::Network;
 use crate::QUEUE_LIMIT;
-use node::Kind;
-use node::Link;
-use node::Message;
 use node::Node;
-use node::Status;
+use parts::Kind;
+use parts::Link;
+use parts::Message;
+use parts::Status;
 
 fn is_vacant_node(node: Node) -> bool
     ensures { λ r. ⌜ r ≡ isVacantNode node ⌝ }

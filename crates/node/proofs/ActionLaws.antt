@@ -11,15 +11,15 @@ use Rattle.refusal.specs.Rules.{first}
 use Rattle.refusal.proofs.Laws.{Cleared, cleared}
 use Rattle.sequence.specs.Sequence.{nextSeq, hasNext, cappedNext}
 use Rattle.sequence.proofs.Laws.{capped-next}
-use Rattle.node.specs.declared.Status.{Status}
-use Rattle.node.specs.declared.Status.the-variants.{Out, Ins, In, Del}
-use Rattle.node.specs.declared.Link.{Link}
-use Rattle.node.specs.declared.Link.the-variants.{Unlinked, To}
+use Rattle.parts.specs.declared.Status.{Status}
+use Rattle.parts.specs.declared.Status.the-variants.{Out, Ins, In, Del}
+use Rattle.parts.specs.declared.Link.{Link}
+use Rattle.parts.specs.declared.Link.the-variants.{Unlinked, To}
+use Rattle.parts.specs.declared.Message.{Message}
+use Rattle.parts.specs.Tests.{isOut, isIn, target, linksTo, seqOf}
 use Rattle.node.specs.declared.Node.{Node}
-use Rattle.node.specs.declared.Message.{Message}
 use Rattle.node.specs.declared.Peer.{Peer}
 use Rattle.node.specs.declared.Outcome.the-variants.{Created, Waiting, LeftAlone}
-use Rattle.node.specs.Tests.{isOut, isIn, target, linksTo, seqOf}
 use Rattle.node.specs.Actions.{setR, setRAck, setL, withStatus, quiet, posting, createRules, created, createOf, joinRules, joining, joinOf, alone, leaveRules, leaveRequest, leaving, leaveOf, grants, relinked, granting, onSetR, actOf, receiveRules, receiveOf}
 
 -- ---- what the tests say

@@ -4,12 +4,13 @@ use mathlib.Core.Path.{_≡_, refl, ap}
 use Prim.Native.Nat.{ℕ}
 use native.Mathlib.Omega.{arith}
 use Rattle.refusal.proofs.Laws.{reason-injective}
-use Rattle.node.specs.declared.Posts.{Posts}
-use Rattle.node.specs.declared.Posts.the-variants.{Nothing, One, Two}
+use Rattle.parts.specs.declared.Posts.{Posts}
+use Rattle.parts.specs.declared.Posts.the-variants.{Nothing, One, Two}
+use Rattle.parts.specs.Posts.{posted}
 use Rattle.node.specs.declared.Verdict.{Verdict}
 use Rattle.node.specs.declared.Verdict.the-variants.{Done, Refused}
 use Rattle.node.specs.declared.Step.{Step}
-use Rattle.node.specs.Actions.{Effect, posted, coded, effect}
+use Rattle.node.specs.Actions.{Effect, coded, effect}
 
 posted-injective : (a b : Posts) → posted a ≡ posted b → a ≡ b
 posted-injective Nothing Nothing e = refl

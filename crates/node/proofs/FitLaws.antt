@@ -15,19 +15,20 @@ use Rattle.refusal.specs.Rules.{first, settled}
 use Rattle.refusal.proofs.Laws.{cleared}
 use Rattle.serial.specs.Serial.{inRange}
 use Rattle.sequence.specs.Sequence.{nextSeq, newer}
-use Rattle.node.specs.declared.Status.{Status}
-use Rattle.node.specs.declared.Status.the-variants.{Out, Ins, In, Del}
-use Rattle.node.specs.declared.Link.{Link}
-use Rattle.node.specs.declared.Link.the-variants.{Unlinked, To}
-use Rattle.node.specs.declared.Seq.{Seq}
-use Rattle.node.specs.declared.Seq.the-variants.{Unset, Is}
+use Rattle.parts.specs.declared.Status.{Status}
+use Rattle.parts.specs.declared.Status.the-variants.{Out, Ins, In, Del}
+use Rattle.parts.specs.declared.Link.{Link}
+use Rattle.parts.specs.declared.Link.the-variants.{Unlinked, To}
+use Rattle.parts.specs.declared.Seq.{Seq}
+use Rattle.parts.specs.declared.Seq.the-variants.{Unset, Is}
+use Rattle.parts.specs.declared.Kind.{Kind}
+use Rattle.parts.specs.declared.Kind.the-variants.{SetR, SetRAck, SetRNak, SetL}
+use Rattle.parts.specs.declared.Message.{Message}
+use Rattle.parts.specs.Shape.{linkFits, kindFits, messageFits}
+use Rattle.parts.specs.Tests.{isOut, isIn, isInOrDel, linked, numbered, target, seqOf, linksTo}
 use Rattle.node.specs.declared.Node.{Node}
-use Rattle.node.specs.declared.Kind.{Kind}
-use Rattle.node.specs.declared.Kind.the-variants.{SetR, SetRAck, SetRNak, SetL}
-use Rattle.node.specs.declared.Message.{Message}
 use Rattle.node.specs.declared.Peer.{Peer}
-use Rattle.node.specs.Shape.{linkFits, nodeFits, kindFits, messageFits, capacity, wellFormed, deliverable, peerFits}
-use Rattle.node.specs.Tests.{isOut, isIn, isInOrDel, linked, numbered, target, seqOf, linksTo}
+use Rattle.node.specs.Shape.{nodeFits, capacity, wellFormed, deliverable, peerFits}
 use Rattle.node.specs.declared.Outcome.{Outcome}
 use Rattle.node.specs.declared.Outcome.the-variants.{Waiting, LeftOld, Dropped}
 use Rattle.node.specs.Actions.{Effect, refused, quiet, posting, setL, withStatus, createRules, created, creating, createOf, joinRules, joining, asking, joinOf, alone, leaveRules, leaveRequest, leaving, leaveOf, grants, notice, ack, relinked, granting, onSetR, confirmed, onSetRAck, onSetRNak, leftSet, onSetL, onKind, actOf, receiveRules, receiveOf}

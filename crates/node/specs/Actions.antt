@@ -7,26 +7,25 @@ use lib.Dec.{eqb}
 use Rattle.refusal.specs.Code.{Reason, reason}
 use Rattle.refusal.specs.Rules.{Coded, done, no, Rule, _when_, ruled}
 use Rattle.interval.specs.Interval.{between}
-use Rattle.node.specs.declared.Status.{Status}
-use Rattle.node.specs.declared.Status.the-variants.{Out, Ins, In, Del}
-use Rattle.node.specs.declared.Link.{Link}
-use Rattle.node.specs.declared.Link.the-variants.{To}
-use Rattle.node.specs.declared.Seq.{Seq}
-use Rattle.node.specs.declared.Seq.the-variants.{Is}
+use Rattle.parts.specs.declared.Status.{Status}
+use Rattle.parts.specs.declared.Status.the-variants.{Out, Ins, In, Del}
+use Rattle.parts.specs.declared.Link.{Link}
+use Rattle.parts.specs.declared.Link.the-variants.{To}
+use Rattle.parts.specs.declared.Seq.{Seq}
+use Rattle.parts.specs.declared.Seq.the-variants.{Is}
+use Rattle.parts.specs.declared.Kind.{Kind}
+use Rattle.parts.specs.declared.Kind.the-variants.{SetR, SetRAck, SetRNak, SetL}
+use Rattle.parts.specs.declared.Message.{Message}
 use Rattle.node.specs.declared.Node.{Node}
-use Rattle.node.specs.declared.Kind.{Kind}
-use Rattle.node.specs.declared.Kind.the-variants.{SetR, SetRAck, SetRNak, SetL}
-use Rattle.node.specs.declared.Message.{Message}
 use Rattle.node.specs.declared.Peer.{Peer}
-use Rattle.node.specs.declared.Posts.{Posts}
-use Rattle.node.specs.declared.Posts.the-variants.{Nothing, One, Two}
 use Rattle.node.specs.declared.Outcome.{Outcome}
 use Rattle.node.specs.declared.Outcome.the-variants.{Created, Waiting, LeftAlone, Granted, Denied, Joined, Gone, JoinDenied, LeaveDenied, LeftSet, LeftOld, Dropped}
 use Rattle.node.specs.declared.Verdict.{Verdict}
 use Rattle.node.specs.declared.Verdict.the-variants.{Done, Refused}
 use Rattle.node.specs.declared.Step.{Step}
 use Rattle.sequence.specs.Sequence.{Number, firstSeq, nextSeq, newer, hasNext, cappedNext}
-use Rattle.node.specs.Tests.{isOut, isIn, linksTo, target, seqOf}
+use Rattle.parts.specs.Tests.{isOut, isIn, linksTo, target, seqOf}
+use Rattle.parts.specs.Posts.{posted}
 use Rattle.node.specs.Shape.{wellFormed, deliverable, peerFits}
 
 -- ---- what a step says
@@ -35,11 +34,6 @@ pub record Effect : Type 0 where
   pub node : Node
   pub posts : List Message
   pub said : Coded Outcome
-
-abbrev pub posted : Posts → List Message
-posted Nothing = []
-posted (One m) = m ∷ []
-posted (Two m n) = m ∷ n ∷ []
 
 abbrev pub coded : Verdict → Coded Outcome
 coded (Done o) = done o

@@ -3,10 +3,10 @@ ghost use mathlib.Core.Path.{_≡_};
 ghost use Rattle.node.specs.Actions.{effect, onSetRAck, onSetRNak};
 use crate::Node;
 use crate::Outcome;
-use crate::Seq;
-use crate::Status;
 use crate::Step;
-use crate::parts;
+use crate::steps;
+use parts::Seq;
+use parts::Status;
 use sequence::Number;
 
 pub fn on_set_r_ack(node: Node, number: Number) -> Step
@@ -15,13 +15,13 @@ pub fn on_set_r_ack(node: Node, number: Number) -> Step
     let status = node.status;
     let right = node.right;
     match status {
-        Status::Out => parts::silent(node, Outcome::Dropped),
+        Status::Out => steps::silent(node, Outcome::Dropped),
         Status::Ins => {
-            let numbered = parts::with_right(node, right, Seq::Is(number));
-            parts::silent(parts::with_status(numbered, Status::In), Outcome::Joined)
+            let numbered = steps::with_right(node, right, Seq::Is(number));
+            steps::silent(steps::with_status(numbered, Status::In), Outcome::Joined)
         }
-        Status::In => parts::silent(node, Outcome::Dropped),
-        Status::Del => parts::silent(parts::with_status(node, Status::Out), Outcome::Gone),
+        Status::In => steps::silent(node, Outcome::Dropped),
+        Status::Del => steps::silent(steps::with_status(node, Status::Out), Outcome::Gone),
     }
 }
 
@@ -30,9 +30,9 @@ pub fn on_set_r_nak(node: Node) -> Step
 {
     let status = node.status;
     match status {
-        Status::Out => parts::silent(node, Outcome::Dropped),
-        Status::Ins => parts::silent(parts::with_status(node, Status::Out), Outcome::JoinDenied),
-        Status::In => parts::silent(node, Outcome::Dropped),
-        Status::Del => parts::silent(parts::with_status(node, Status::In), Outcome::LeaveDenied),
+        Status::Out => steps::silent(node, Outcome::Dropped),
+        Status::Ins => steps::silent(steps::with_status(node, Status::Out), Outcome::JoinDenied),
+        Status::In => steps::silent(node, Outcome::Dropped),
+        Status::Del => steps::silent(steps::with_status(node, Status::In), Outcome::LeaveDenied),
     }
 }

@@ -2,14 +2,14 @@
 ghost use mathlib.Core.Path.{_≡_};
 ghost use Rattle.refusal.specs.Rules.{first, checked};
 ghost use Rattle.node.specs.Actions.{effect, createRules, created, createOf};
-use crate::Link;
 use crate::Node;
 use crate::Outcome;
-use crate::Seq;
-use crate::Status;
 use crate::Step;
-use crate::parts;
 use crate::shape;
+use crate::steps;
+use parts::Link;
+use parts::Seq;
+use parts::Status;
 use refusal::Check;
 use refusal::Refusal;
 
@@ -28,12 +28,12 @@ fn created_as(node: Node, me: u8) -> Node
     ensures { λ r. ⌜ r ≡ created me node ⌝ }
 {
     let first = sequence::first();
-    let linked = parts::with_right(
-        parts::with_left(node, Link::To(me), first),
+    let linked = steps::with_right(
+        steps::with_left(node, Link::To(me), first),
         Link::To(me),
         Seq::Is(first),
     );
-    parts::with_status(linked, Status::In)
+    steps::with_status(linked, Status::In)
 }
 
 impl Node {
@@ -41,8 +41,8 @@ impl Node {
         ensures { λ r. ⌜ effect r ≡ createOf me self ⌝ }
     {
         match check(self, me) {
-            Check::Refuse(refusal) => parts::refuse(self, refusal),
-            Check::Clear => parts::silent(created_as(self, me), Outcome::Created),
+            Check::Refuse(refusal) => steps::refuse(self, refusal),
+            Check::Clear => steps::silent(created_as(self, me), Outcome::Created),
         }
     }
 }

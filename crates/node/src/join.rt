@@ -2,16 +2,16 @@
 ghost use mathlib.Core.Path.{_≡_};
 ghost use Rattle.refusal.specs.Rules.{first, checked};
 ghost use Rattle.node.specs.Actions.{effect, joinRules, joining, joinRequest, joinOf};
-use crate::Kind;
-use crate::Link;
-use crate::Message;
 use crate::Node;
 use crate::Outcome;
 use crate::Peer;
-use crate::Status;
 use crate::Step;
-use crate::parts;
 use crate::shape;
+use crate::steps;
+use parts::Kind;
+use parts::Link;
+use parts::Message;
+use parts::Status;
 use refusal::Check;
 use refusal::Refusal;
 
@@ -38,12 +38,12 @@ fn joining_between(node: Node, left: Peer, right: Peer) -> Node
     ensures { λ r. ⌜ r ≡ joining node left right ⌝ }
 {
     let rseq = node.rseq;
-    let linked = parts::with_right(
-        parts::with_left(node, Link::To(left.number), node.lseq),
+    let linked = steps::with_right(
+        steps::with_left(node, Link::To(left.number), node.lseq),
         Link::To(right.number),
         rseq,
     );
-    parts::with_status(linked, Status::Ins)
+    steps::with_status(linked, Status::Ins)
 }
 
 fn join_request(node: Node, me: u8, left: Peer, right: Peer) -> Message
@@ -65,10 +65,10 @@ impl Node {
         ensures { λ r. ⌜ effect r ≡ joinOf me self left right ⌝ }
     {
         match check(self, me, left, right) {
-            Check::Refuse(refusal) => parts::refuse(self, refusal),
+            Check::Refuse(refusal) => steps::refuse(self, refusal),
             Check::Clear => {
                 let request = join_request(self, me, left, right);
-                parts::posts_one(
+                steps::posts_one(
                     joining_between(self, left, right),
                     request,
                     Outcome::Waiting,

@@ -2,14 +2,14 @@
 ghost use mathlib.Core.Path.{_≡_};
 ghost use Rattle.refusal.specs.Rules.{first, checked};
 ghost use Rattle.node.specs.Actions.{effect, leaveRules, leaveRequest, leaveOf};
-use crate::Kind;
-use crate::Message;
 use crate::Node;
 use crate::Outcome;
-use crate::Status;
 use crate::Step;
-use crate::parts;
 use crate::shape;
+use crate::steps;
+use parts::Kind;
+use parts::Message;
+use parts::Status;
 use refusal::Check;
 use refusal::Refusal;
 use sequence::Number;
@@ -58,15 +58,15 @@ impl Node {
         let right = self.right;
         let rseq = self.rseq;
         match check(self, me) {
-            Check::Refuse(refusal) => parts::refuse(self, refusal),
+            Check::Refuse(refusal) => steps::refuse(self, refusal),
             Check::Clear => {
                 if right.links_to(me) {
-                    parts::silent(parts::with_status(self, Status::Out), Outcome::LeftAlone)
+                    steps::silent(steps::with_status(self, Status::Out), Outcome::LeftAlone)
                 } else {
                     let next = sequence::capped_next(rseq.number());
                     let request = leave_request(self, me, next);
-                    parts::posts_one(
-                        parts::with_status(self, Status::Del),
+                    steps::posts_one(
+                        steps::with_status(self, Status::Del),
                         request,
                         Outcome::Waiting,
                     )

@@ -2,16 +2,16 @@
 ghost use mathlib.Core.Path.{_≡_};
 ghost use Rattle.refusal.specs.Rules.{first, checked};
 ghost use Rattle.node.specs.Actions.{effect, receiveRules, setR, setRAck, setRNak, setL, actOf, receiveOf};
-use crate::Kind;
-use crate::Message;
 use crate::Node;
 use crate::Outcome;
 use crate::Step;
 use crate::answers;
-use crate::parts;
 use crate::set_l;
 use crate::set_r;
 use crate::shape;
+use crate::steps;
+use parts::Kind;
+use parts::Message;
 use refusal::Check;
 use refusal::Refusal;
 use sequence::Number;
@@ -33,7 +33,7 @@ impl Node {
     {
         let status = self.status;
         if status.is_out() {
-            return parts::silent(self, Outcome::Dropped);
+            return steps::silent(self, Outcome::Dropped);
         }
         match kind {
             Kind::SetR {
@@ -53,7 +53,7 @@ impl Node {
     {
         let kind = message.kind;
         match check(self, me, message) {
-            Check::Refuse(refusal) => parts::refuse(self, refusal),
+            Check::Refuse(refusal) => steps::refuse(self, refusal),
             Check::Clear => self.act(me, message.sender, kind),
         }
     }

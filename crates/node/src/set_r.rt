@@ -1,16 +1,16 @@
 // SetR: a node grants or denies a request to change its right link.
 ghost use mathlib.Core.Path.{_≡_};
 ghost use Rattle.node.specs.Actions.{effect, grants, wouldGrant, granting, onSetR};
-use crate::Kind;
-use crate::Link;
-use crate::Message;
 use crate::Node;
 use crate::Outcome;
-use crate::Posts;
-use crate::Seq;
 use crate::Step;
 use crate::Verdict;
-use crate::parts;
+use crate::steps;
+use parts::Kind;
+use parts::Link;
+use parts::Message;
+use parts::Posts;
+use parts::Seq;
 use sequence::Number;
 
 fn grants_request(node: Node, sender: u8, new: u8, expected: u8) -> bool
@@ -62,10 +62,10 @@ pub fn on_set_r(node: Node, me: u8, sender: u8, new: u8, expected: u8, number: N
             to: sender,
             kind: Kind::SetRNak,
         };
-        return parts::posts_one(node, nak, Outcome::Denied);
+        return steps::posts_one(node, nak, Outcome::Denied);
     }
     let next = sequence::capped_next(rseq.number());
-    let relinked = parts::with_right(node, Link::To(new), Seq::Is(number));
+    let relinked = steps::with_right(node, Link::To(new), Seq::Is(number));
     let ack = Message {
         sender: me,
         to: sender,

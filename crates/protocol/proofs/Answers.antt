@@ -9,14 +9,14 @@ use native.Mathlib.Decide.{ℕ-discrete}
 use borrow.Author.Tests.{eq-eqb, ne-eqb}
 use Rattle.sequence.specs.Sequence.{Number}
 use Rattle.truth.proofs.TestLaws.{_∈_, not-both, any-in}
-use Rattle.node.specs.declared.Status.{Status}
-use Rattle.node.specs.declared.Status.the-variants.{Out, Ins, In, Del}
-use Rattle.node.specs.declared.Seq.the-variants.{Is}
+use Rattle.parts.specs.declared.Status.{Status}
+use Rattle.parts.specs.declared.Status.the-variants.{Out, Ins, In, Del}
+use Rattle.parts.specs.declared.Seq.the-variants.{Is}
+use Rattle.parts.specs.declared.Message.{Message}
 use Rattle.node.specs.declared.Node.{Node}
-use Rattle.node.specs.declared.Message.{Message}
 use Rattle.node.specs.Actions.{setR, setRAck, setRNak, setL, withStatus, confirmed}
 use Rattle.protocol.specs.State.{isAckTo, isDealingOf, isInserted}
-use Rattle.node.specs.Tests.{isNotice}
+use Rattle.parts.specs.Tests.{isNotice}
 use Rattle.protocol.proofs.Nodes.{At, unchanged}
 use Rattle.protocol.proofs.Waiting.{Taken, Dealt, apart, request-deals, ack-deals, nak-deals, only-dealing, no-ack, acks-left}
 use Rattle.protocol.proofs.Fields.{statusOf, keyOf, leftOf, rightOf, lseqOf, rseqOf}

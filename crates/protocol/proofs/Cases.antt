@@ -20,13 +20,13 @@ use Rattle.serial.specs.Serial.{inRange}
 use Rattle.interval.specs.Interval.{between}
 use Rattle.interval.proofs.Laws.{Between, between-iff}
 use Rattle.sequence.specs.Sequence.{Number, newer}
-use Rattle.node.specs.declared.Status.{Status}
-use Rattle.node.specs.declared.Status.the-variants.{Out, Ins, In, Del}
-use Rattle.node.specs.declared.Kind.{Kind}
-use Rattle.node.specs.declared.Kind.the-variants.{SetR, SetRAck, SetRNak, SetL}
-use Rattle.node.specs.declared.Message.{Message}
+use Rattle.parts.specs.declared.Status.{Status}
+use Rattle.parts.specs.declared.Status.the-variants.{Out, Ins, In, Del}
+use Rattle.parts.specs.declared.Kind.{Kind}
+use Rattle.parts.specs.declared.Kind.the-variants.{SetR, SetRAck, SetRNak, SetL}
+use Rattle.parts.specs.declared.Message.{Message}
+use Rattle.parts.specs.Tests.{isOut, isInOrDel, target, seqOf, isRequest, isAnswer}
 use Rattle.node.specs.Shape.{capacity}
-use Rattle.node.specs.Tests.{isOut, isInOrDel, target, seqOf, isRequest, isAnswer}
 use Rattle.node.specs.Actions.{Effect, alone, leaveRules as leaveStepRules, grants, onSetR, onSetRAck, onSetRNak, onSetL, onKind, actOf, wouldGrant}
 use Rattle.node.proofs.ActionLaws.{tested-out, tested-in, tested-link, granted, create-accepted, join-accepted, leave-alone-accepted, leave-accepted, receive-accepted, join-granted, leave-granted}
 use Rattle.node.proofs.FitLaws.{NodeFits, message-facts, left-named, right-named, number-named, well-formed-among, deliverable-among}

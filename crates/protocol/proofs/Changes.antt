@@ -12,11 +12,11 @@ use Rattle.refusal.specs.Rules.{done}
 use Rattle.serial.specs.Serial.{inRange}
 use Rattle.interval.proofs.Laws.{Between}
 use Rattle.sequence.specs.Sequence.{Number, nextSeq, cappedNext, hasNext, newer}
-use Rattle.node.specs.declared.Status.the-variants.{Out, Ins, In, Del}
-use Rattle.node.specs.declared.Link.the-variants.{To}
-use Rattle.node.specs.declared.Seq.the-variants.{Is}
+use Rattle.parts.specs.declared.Status.the-variants.{Out, Ins, In, Del}
+use Rattle.parts.specs.declared.Link.the-variants.{To}
+use Rattle.parts.specs.declared.Seq.the-variants.{Is}
+use Rattle.parts.specs.declared.Message.{Message}
 use Rattle.node.specs.declared.Node.{Node}
-use Rattle.node.specs.declared.Message.{Message}
 use Rattle.node.specs.declared.Outcome.{Outcome}
 use Rattle.node.specs.declared.Outcome.the-variants.{Created, Waiting, LeftAlone, Granted, Denied, Joined, Gone, JoinDenied, LeaveDenied, LeftSet, LeftOld, Dropped}
 use Rattle.node.specs.Shape.{capacity}

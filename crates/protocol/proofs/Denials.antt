@@ -10,12 +10,12 @@ use Rattle.sequence.specs.Sequence.{Number}
 use Rattle.truth.specs.Tests.{any}
 use Rattle.truth.proofs.Laws.{both}
 use Rattle.truth.proofs.TestLaws.{_∈_, decided, not-both}
-use Rattle.node.specs.declared.Status.the-variants.{Out}
+use Rattle.parts.specs.declared.Status.the-variants.{Out}
+use Rattle.parts.specs.declared.Message.{Message}
 use Rattle.node.specs.declared.Node.{Node}
-use Rattle.node.specs.declared.Message.{Message}
 use Rattle.node.specs.Actions.{setR, setRNak, setL}
 use Rattle.protocol.specs.State.{isAckTo, dealings}
-use Rattle.node.specs.Tests.{isAck, isNak, isNotice}
+use Rattle.parts.specs.Tests.{isAck, isNak, isNotice}
 use Rattle.protocol.proofs.Nodes.{At, unchanged}
 use Rattle.protocol.proofs.Waiting.{Taken, Dealt, apart, in-one, same-any, ack-dealing, no-dealing, acks-left}
 use Rattle.protocol.proofs.Fields.{statusOf, keyOf, leftOf, rightOf, lseqOf, rseqOf, toOf}

@@ -6,7 +6,8 @@ use Prim.Native.Nat.{ℕ}
 use lib.ListN.{take}
 use Rattle.interval.specs.Interval.{between}
 use Rattle.sequence.specs.Sequence.{firstSeq, lastSeq, nextSeq, newer, hasNext, cappedNext}
-use Rattle.node.specs.Shape.{nodeFits, messageFits, wellFormed as nodeIsSound, deliverable, peerFits}
+use Rattle.parts.specs.Shape.{messageFits}
+use Rattle.node.specs.Shape.{nodeFits, wellFormed as nodeIsSound, deliverable, peerFits}
 use Rattle.node.specs.Actions.{createOf, joinOf, leaveOf, grants, receiveOf}
 use Rattle.protocol.specs.declared.Call.{Call}
 use Rattle.protocol.specs.declared.Order.the-variants.{Declare, Create, Leave}

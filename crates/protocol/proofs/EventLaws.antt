@@ -14,10 +14,10 @@ use Rattle.links.specs.Ring.{Ascending, withMember, withoutMember}
 use Rattle.links.proofs.Ring.{here, in-nil, in-one}
 use Rattle.links.proofs.Places.{members-with, members-without, ascending-inserted, ascending-removed, one-of-key, one-order}
 use Rattle.links.proofs.Circuit.{no-ring, one-ring, ascending-kept, ring-kept, alone-in}
-use Rattle.node.specs.declared.Status.the-variants.{Out, In}
-use Rattle.node.specs.declared.Link.the-variants.{To}
+use Rattle.parts.specs.declared.Status.the-variants.{Out, In}
+use Rattle.parts.specs.declared.Link.the-variants.{To}
+use Rattle.parts.specs.declared.Message.{Message}
 use Rattle.node.specs.declared.Node.{Node}
-use Rattle.node.specs.declared.Message.{Message}
 use Rattle.protocol.specs.declared.Call.{Call}
 use Rattle.protocol.specs.declared.Call.the-variants.{Deliver}
 use Rattle.protocol.specs.State.{State, nodeAt, statusAt, keyAt, rightAt, inserted}

@@ -7,8 +7,9 @@ use mathlib.Core.List.{[], _∷_}
 use Rattle.interval.specs.Interval.{between}
 use Rattle.sequence.specs.Sequence.{firstSeq, lastSeq, nextSeq, newer, hasNext, cappedNext}
 use Rattle.links.specs.Walk.{walk, falls}
-use Rattle.node.specs.declared.Link.the-variants.{To}
-use Rattle.node.specs.Shape.{nodeFits, messageFits, wellFormed as nodeIsSound, deliverable, peerFits}
+use Rattle.parts.specs.declared.Link.the-variants.{To}
+use Rattle.parts.specs.Shape.{messageFits}
+use Rattle.node.specs.Shape.{nodeFits, wellFormed as nodeIsSound, deliverable, peerFits}
 use Rattle.node.specs.Actions.{setR, setL, createOf, joinOf, leaveOf, grants, receiveOf}
 use Rattle.protocol.specs.State.{empty, keyAt, leftAt, rightAt, wellFormed, inserted}
 use Rattle.protocol.specs.Calls.{applyOf}

@@ -9,8 +9,9 @@ use borrow.Author.Tests.{leb-true, le-leb, not-true, eqb-false, ne-eqb}
 use Rattle.truth.specs.Tests.{count, everyBelow}
 use Rattle.truth.proofs.Laws.{both}
 use Rattle.truth.proofs.TestLaws.{_∈_, every-in, all-pass, below-at, below-all}
-use Rattle.node.specs.declared.Message.{Message}
-use Rattle.node.specs.Shape.{capacity, nodeFits, messageFits}
+use Rattle.parts.specs.declared.Message.{Message}
+use Rattle.parts.specs.Shape.{messageFits}
+use Rattle.node.specs.Shape.{capacity, nodeFits}
 use Rattle.node.proofs.FitLaws.{NodeFits, node-facts, node-fits}
 use Rattle.protocol.specs.State.{State, queueLimit, nodeAt, statusAt, keyAt, isDealingOf, keyIsNew, dealings, nodeIsWellFormed, wellFormed}
 

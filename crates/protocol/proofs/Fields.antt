@@ -1,11 +1,11 @@
 -- The fields of a node and of a message as functions, so that an equation of nodes gives one of their fields. Definitions only.
 use Prim.Native.Nat.{ℕ}
-use Rattle.node.specs.declared.Status.{Status}
-use Rattle.node.specs.declared.Link.{Link}
-use Rattle.node.specs.declared.Seq.{Seq}
-use Rattle.node.specs.declared.Kind.{Kind}
+use Rattle.parts.specs.declared.Status.{Status}
+use Rattle.parts.specs.declared.Link.{Link}
+use Rattle.parts.specs.declared.Seq.{Seq}
+use Rattle.parts.specs.declared.Kind.{Kind}
+use Rattle.parts.specs.declared.Message.{Message}
 use Rattle.node.specs.declared.Node.{Node}
-use Rattle.node.specs.declared.Message.{Message}
 
 abbrev pub statusOf : Node → Status
 statusOf u = u .status

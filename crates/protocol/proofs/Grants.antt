@@ -16,16 +16,16 @@ use Rattle.links.proofs.Ring.{here, there, With, Without}
 use Rattle.links.proofs.Circuit.{ring-kept, next-in, one-predecessor}
 use Rattle.links.proofs.Change.{insert, remove}
 use Rattle.links.proofs.Trails.{same-end}
-use Rattle.node.specs.declared.Status.{Status}
-use Rattle.node.specs.declared.Status.the-variants.{Ins, In, Del}
-use Rattle.node.specs.declared.Link.the-variants.{To}
-use Rattle.node.specs.declared.Seq.the-variants.{Is}
-use Rattle.node.specs.declared.Kind.the-variants.{SetRAck, SetL}
+use Rattle.parts.specs.declared.Status.{Status}
+use Rattle.parts.specs.declared.Status.the-variants.{Ins, In, Del}
+use Rattle.parts.specs.declared.Link.the-variants.{To}
+use Rattle.parts.specs.declared.Seq.the-variants.{Is}
+use Rattle.parts.specs.declared.Kind.the-variants.{SetRAck, SetL}
+use Rattle.parts.specs.declared.Message.{Message}
 use Rattle.node.specs.declared.Node.{Node}
-use Rattle.node.specs.declared.Message.{Message}
 use Rattle.node.specs.Actions.{setR, setRAck, setL, relinked}
 use Rattle.protocol.specs.State.{isAckTo}
-use Rattle.node.specs.Tests.{isAck, isNotice, isRequest}
+use Rattle.parts.specs.Tests.{isAck, isNotice, isRequest}
 use Rattle.protocol.proofs.Nodes.{At, unchanged}
 use Rattle.protocol.proofs.Waiting.{Taken, Dealt, apart, in-two, same-any, request-deals, ack-deals, only-dealing, no-ack, waits-for, acks-left}
 use Rattle.protocol.proofs.Fields.{statusOf, keyOf, leftOf, rightOf, lseqOf, rseqOf, kindOf, toOf}

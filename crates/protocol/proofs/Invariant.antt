@@ -12,11 +12,11 @@ use Rattle.interval.proofs.Laws.{Between}
 use Rattle.sequence.specs.Sequence.{Number, nextSeq}
 use Rattle.sequence.proofs.Laws.{Newer}
 use Rattle.links.proofs.Ring.{Ring}
-use Rattle.node.specs.declared.Status.the-variants.{Ins, Del}
-use Rattle.node.specs.declared.Link.the-variants.{To}
-use Rattle.node.specs.declared.Seq.the-variants.{Is}
+use Rattle.parts.specs.declared.Status.the-variants.{Ins, Del}
+use Rattle.parts.specs.declared.Link.the-variants.{To}
+use Rattle.parts.specs.declared.Seq.the-variants.{Is}
+use Rattle.parts.specs.declared.Message.{Message}
 use Rattle.node.specs.declared.Node.{Node}
-use Rattle.node.specs.declared.Message.{Message}
 use Rattle.node.specs.Actions.{setR, setRAck, setL}
 use Rattle.protocol.specs.State.{isAckTo, dealings, isInserted}
 

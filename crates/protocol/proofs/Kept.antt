@@ -14,11 +14,11 @@ use Rattle.truth.specs.Tests.{bit, count}
 use Rattle.truth.proofs.Laws.{or-false, both, not-left}
 use Rattle.truth.proofs.TestLaws.{bit-true, bit-false, count-append}
 use Rattle.sequence.specs.Sequence.{Number, nextSeq, cappedNext}
-use Rattle.node.specs.declared.Status.the-variants.{Out, In, Del}
+use Rattle.parts.specs.declared.Status.the-variants.{Out, In, Del}
+use Rattle.parts.specs.declared.Message.{Message}
+use Rattle.parts.specs.Shape.{messageFits}
+use Rattle.parts.specs.Tests.{isOut, isInOrDel, numbered}
 use Rattle.node.specs.declared.Node.{Node}
-use Rattle.node.specs.declared.Message.{Message}
-use Rattle.node.specs.Shape.{messageFits}
-use Rattle.node.specs.Tests.{isOut, isInOrDel, numbered}
 use Rattle.node.specs.Actions.{setR, setRAck, setRNak, setL, withStatus, created, joining, relinked}
 use Rattle.node.proofs.FitLaws.{NodeFits, MessageFits, message-facts, PostsFit, message-fits, created-fits, joining-fits, out-fits, status-fits, confirmed-fits, relinked-fits, left-set-fits}
 use Rattle.protocol.specs.declared.Call.{Call}

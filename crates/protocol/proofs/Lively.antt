@@ -15,16 +15,16 @@ use Rattle.truth.specs.Tests.{bit, count}
 use Rattle.truth.proofs.Laws.{true-is-not-false}
 use Rattle.truth.proofs.TestLaws.{decided, holds, is-true, count-append}
 use Rattle.sequence.specs.Sequence.{Number, nextSeq, cappedNext}
+use Rattle.parts.specs.declared.Kind.{Kind}
+use Rattle.parts.specs.declared.Kind.the-variants.{SetR, SetRAck, SetRNak, SetL}
+use Rattle.parts.specs.declared.Message.{Message}
 use Rattle.node.specs.declared.Node.{Node}
-use Rattle.node.specs.declared.Kind.{Kind}
-use Rattle.node.specs.declared.Kind.the-variants.{SetR, SetRAck, SetRNak, SetL}
-use Rattle.node.specs.declared.Message.{Message}
 use Rattle.node.specs.Actions.{setR, setRAck, setRNak, setL, wouldGrant}
 use Rattle.node.proofs.FitLaws.{message-facts}
 use Rattle.protocol.specs.declared.Call.{Call}
 use Rattle.protocol.specs.declared.Call.the-variants.{Deliver}
 use Rattle.protocol.specs.State.{State, queueLimit, nodeAt, statusAt, isDealingOf, wellFormed}
-use Rattle.node.specs.Tests.{isRequest}
+use Rattle.parts.specs.Tests.{isRequest}
 use Rattle.protocol.specs.Calls.{Result, isFull, messageAt, isGrantable, applyOf}
 use Rattle.protocol.specs.Answer.{accepted}
 use Rattle.protocol.specs.Claim.{Delivers, delivered, load, Lively, SteadyClaim}

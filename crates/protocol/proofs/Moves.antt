@@ -13,9 +13,10 @@ use borrow.Author.Tests.{ltb-true, ne-eqb}
 use Rattle.truth.specs.Tests.{count}
 use Rattle.truth.proofs.Laws.{and-false}
 use Rattle.truth.proofs.TestLaws.{_∈_, bit-false}
+use Rattle.parts.specs.declared.Message.{Message}
+use Rattle.parts.specs.Shape.{messageFits}
 use Rattle.node.specs.declared.Node.{Node}
-use Rattle.node.specs.declared.Message.{Message}
-use Rattle.node.specs.Shape.{declaredOf, messageFits}
+use Rattle.node.specs.Shape.{declaredOf}
 use Rattle.node.proofs.FitLaws.{NodeFits, message-facts, PostsFit, fits-more, message-fits-more}
 use Rattle.protocol.specs.State.{State, queueLimit, nodeAt, statusAt, keyAt, isDealingOf, dealings}
 use Rattle.protocol.specs.Calls.{declaring}

@@ -8,7 +8,7 @@ use native.Mathlib.Omega.{arith}
 use native.Mathlib.Decide.{decLt, ℕ-discrete}
 use lib.ListN.{length, length-append, set, getD, List·getD-eq-default, List·getD-append}
 use lib.Seq.{getD-set-same, getD-set-other, getD-append-seam}
-use Rattle.node.specs.declared.Status.the-variants.{Out}
+use Rattle.parts.specs.declared.Status.the-variants.{Out}
 use Rattle.node.specs.declared.Node.{Node}
 use Rattle.node.specs.Shape.{declaredOf}
 use Rattle.protocol.specs.State.{State, nodeAt, statusAt}

@@ -10,11 +10,11 @@ use native.Mathlib.Decide.{ℕ-discrete}
 use Rattle.truth.proofs.TestLaws.{_∈_, holds, is-true, not-both}
 use Rattle.sequence.specs.Sequence.{Number, newer}
 use Rattle.sequence.proofs.Laws.{Newer, newer-total}
-use Rattle.node.specs.declared.Status.the-variants.{Ins}
-use Rattle.node.specs.declared.Link.the-variants.{To}
-use Rattle.node.specs.declared.Kind.the-variants.{SetL}
+use Rattle.parts.specs.declared.Status.the-variants.{Ins}
+use Rattle.parts.specs.declared.Link.the-variants.{To}
+use Rattle.parts.specs.declared.Kind.the-variants.{SetL}
+use Rattle.parts.specs.declared.Message.{Message}
 use Rattle.node.specs.declared.Node.{Node}
-use Rattle.node.specs.declared.Message.{Message}
 use Rattle.node.specs.Actions.{setR, setL, leftSet}
 use Rattle.protocol.proofs.Nodes.{At, unchanged}
 use Rattle.protocol.proofs.Waiting.{Taken, taken-out, Dealt, request-deals, no-ack, acks-left}

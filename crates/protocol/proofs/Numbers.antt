@@ -10,12 +10,12 @@ use lib.ListN.{length}
 use Rattle.truth.proofs.TestLaws.{_∈_, all-pass, below-all}
 use Rattle.sequence.specs.Sequence.{isSeq, nextSeq, cappedNext}
 use Rattle.sequence.proofs.Laws.{first-fits, next-fits, capped-fits}
+use Rattle.parts.specs.declared.Message.{Message}
 use Rattle.node.specs.declared.Node.{Node}
-use Rattle.node.specs.declared.Message.{Message}
 use Rattle.node.specs.Actions.{setR, setRAck, setRNak, setL}
 use Rattle.protocol.specs.declared.Call.{Call}
 use Rattle.protocol.specs.State.{State, nodeAt, numbersFit}
-use Rattle.node.specs.Tests.{seqFits, numberFits}
+use Rattle.parts.specs.Tests.{seqFits, numberFits}
 use Rattle.protocol.specs.Calls.{Result}
 use Rattle.protocol.proofs.Fields.{lseqOf, rseqOf}
 use Rattle.protocol.proofs.Nodes.{At, set-at, declared-at}

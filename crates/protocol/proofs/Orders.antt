@@ -11,18 +11,18 @@ use Rattle.truth.specs.Tests.{any}
 use Rattle.truth.proofs.TestLaws.{_∈_, not-both, none-in, not-any}
 use Rattle.interval.proofs.Laws.{Between}
 use Rattle.sequence.specs.Sequence.{Number, nextSeq}
-use Rattle.node.specs.declared.Status.{Status}
-use Rattle.node.specs.declared.Status.the-variants.{Out, Ins, In, Del}
-use Rattle.node.specs.declared.Link.the-variants.{To}
-use Rattle.node.specs.declared.Seq.the-variants.{Is}
-use Rattle.node.specs.declared.Kind.the-variants.{SetR}
+use Rattle.parts.specs.declared.Status.{Status}
+use Rattle.parts.specs.declared.Status.the-variants.{Out, Ins, In, Del}
+use Rattle.parts.specs.declared.Link.the-variants.{To}
+use Rattle.parts.specs.declared.Seq.the-variants.{Is}
+use Rattle.parts.specs.declared.Kind.the-variants.{SetR}
+use Rattle.parts.specs.declared.Message.{Message}
 use Rattle.node.specs.declared.Node.{Node}
-use Rattle.node.specs.declared.Message.{Message}
 use Rattle.node.specs.declared.Peer.{Peer}
 use Rattle.node.specs.Shape.{declaredOf}
 use Rattle.node.specs.Actions.{setR, setRAck, setL, withStatus, joining}
 use Rattle.protocol.specs.State.{isAckTo, isNoticeTo, dealings, isInserted}
-use Rattle.node.specs.Tests.{isNotice, isAck}
+use Rattle.parts.specs.Tests.{isNotice, isAck}
 use Rattle.protocol.proofs.Nodes.{At, unchanged}
 use Rattle.protocol.proofs.Waiting.{Dealt, apart, in-one as in-posted, same-any, request-deals, not-ack, no-dealing}
 use Rattle.protocol.proofs.Fields.{statusOf, keyOf, leftOf, rightOf, lseqOf, rseqOf, kindOf, toOf, senderOf}

@@ -25,8 +25,8 @@ use Rattle.links.proofs.Lists.{few-below}
 use Rattle.links.proofs.Trails.{same-end, move-to}
 use Rattle.links.proofs.Circuit.{linked-in, next-in}
 use Rattle.links.proofs.Owner.{KeyOwner, owner, reaches}
-use Rattle.node.specs.declared.Link.{Link}
-use Rattle.node.specs.declared.Link.the-variants.{To}
+use Rattle.parts.specs.declared.Link.{Link}
+use Rattle.parts.specs.declared.Link.the-variants.{To}
 use Rattle.protocol.specs.declared.Reply.the-variants.{Owner}
 use Rattle.protocol.specs.State.{State, declared, nodeAt, keyAt, rightAt, wellFormed, inserted}
 use Rattle.protocol.specs.History.{history}

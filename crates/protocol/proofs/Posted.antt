@@ -11,7 +11,7 @@ use lib.Dec.{T}
 use Rattle.truth.proofs.TestLaws.{is-true}
 use Rattle.refusal.specs.Code.{Reason}
 use Rattle.refusal.specs.Rules.{no, _when_, first, settled}
-use Rattle.node.specs.declared.Message.{Message}
+use Rattle.parts.specs.declared.Message.{Message}
 use Rattle.protocol.specs.declared.Call.{Call}
 use Rattle.protocol.specs.declared.Order.the-variants.{Declare, Create, Join, Leave}
 use Rattle.protocol.specs.declared.Call.the-variants.{Order, Deliver}

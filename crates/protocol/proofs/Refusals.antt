@@ -13,7 +13,7 @@ use Rattle.truth.proofs.TestLaws.{decided}
 use Rattle.refusal.specs.Code.{Reason, plain}
 use Rattle.refusal.specs.Rules.{no, first, settled}
 use Rattle.refusal.proofs.Laws.{Never, end, other, fails, never}
-use Rattle.node.specs.declared.Message.{Message}
+use Rattle.parts.specs.declared.Message.{Message}
 use Rattle.node.specs.Shape.{wellFormed as nodeIsSound, peerFits}
 use Rattle.node.proofs.FitLaws.{well-formed-among, peer-among}
 use Rattle.protocol.specs.declared.Call.{Call}

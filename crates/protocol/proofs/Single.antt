@@ -13,12 +13,12 @@ use Rattle.sequence.proofs.Laws.{newer-irreflexive}
 use Rattle.links.proofs.Ring.{here, in-nil, in-one}
 use Rattle.links.proofs.Circuit.{no-ring, one-ring, alone-in}
 use Rattle.links.proofs.Trails.{same-end}
-use Rattle.node.specs.declared.Status.{Status}
-use Rattle.node.specs.declared.Status.the-variants.{Out, Ins, In, Del}
-use Rattle.node.specs.declared.Link.the-variants.{To}
-use Rattle.node.specs.declared.Seq.the-variants.{Is}
+use Rattle.parts.specs.declared.Status.{Status}
+use Rattle.parts.specs.declared.Status.the-variants.{Out, Ins, In, Del}
+use Rattle.parts.specs.declared.Link.the-variants.{To}
+use Rattle.parts.specs.declared.Seq.the-variants.{Is}
+use Rattle.parts.specs.declared.Message.{Message}
 use Rattle.node.specs.declared.Node.{Node}
-use Rattle.node.specs.declared.Message.{Message}
 use Rattle.node.specs.Actions.{setR, setL, withStatus, created}
 use Rattle.protocol.specs.State.{isNoticeTo, dealings}
 use Rattle.protocol.proofs.Nodes.{At, unchanged}

@@ -16,10 +16,10 @@ use Rattle.truth.proofs.TestLaws.{_∈_, not-both}
 use Rattle.refusal.specs.Code.{Reason}
 use Rattle.refusal.specs.Rules.{no as refusal}
 use Rattle.sequence.specs.Sequence.{Number, nextSeq, cappedNext}
-use Rattle.node.specs.declared.Status.the-variants.{Out, Del}
-use Rattle.node.specs.declared.Seq.the-variants.{Is}
-use Rattle.node.specs.declared.Message.{Message}
-use Rattle.node.specs.Tests.{isInOrDel, seqOf}
+use Rattle.parts.specs.declared.Status.the-variants.{Out, Del}
+use Rattle.parts.specs.declared.Seq.the-variants.{Is}
+use Rattle.parts.specs.declared.Message.{Message}
+use Rattle.parts.specs.Tests.{isInOrDel, seqOf}
 use Rattle.node.specs.Actions.{setR, setRAck, setL, relinked}
 use Rattle.node.proofs.FitLaws.{message-facts, number-named}
 use Rattle.protocol.specs.declared.Call.{Call}

@@ -15,13 +15,13 @@ use Rattle.truth.proofs.TestLaws.{_∈_, holds, is-true, not-both, none-in, som
 use mathlib.Core.List.{List·Memᴰ·not-nil as in-none}
 use Rattle.sequence.proofs.Laws.{first-fits}
 use Rattle.links.proofs.Circuit.{no-ring, predecessor, circuit}
-use Rattle.node.specs.declared.Status.{Status}
-use Rattle.node.specs.declared.Status.the-variants.{Out, Ins, In, Del}
-use Rattle.node.specs.declared.Link.the-variants.{To}
-use Rattle.node.specs.declared.Kind.{Kind}
-use Rattle.node.specs.declared.Kind.the-variants.{SetR, SetRAck, SetRNak, SetL}
-use Rattle.node.specs.declared.Message.{Message}
-use Rattle.node.specs.Tests.{isInOrDel, seqOf}
+use Rattle.parts.specs.declared.Status.{Status}
+use Rattle.parts.specs.declared.Status.the-variants.{Out, Ins, In, Del}
+use Rattle.parts.specs.declared.Link.the-variants.{To}
+use Rattle.parts.specs.declared.Kind.{Kind}
+use Rattle.parts.specs.declared.Kind.the-variants.{SetR, SetRAck, SetRNak, SetL}
+use Rattle.parts.specs.declared.Message.{Message}
+use Rattle.parts.specs.Tests.{isInOrDel, seqOf}
 use Rattle.node.specs.Actions.{setRAck}
 use Rattle.node.proofs.FitLaws.{number-named}
 use Rattle.protocol.specs.declared.Call.{Call}

@@ -13,12 +13,12 @@ use borrow.Author.Tests.{eq-eqb}
 use Rattle.sequence.specs.Sequence.{Number}
 use Rattle.truth.specs.Tests.{bit, count, any}
 use Rattle.truth.proofs.TestLaws.{_∈_, decided, not-both, any-in, some-in, not-any, count-append, none-counted, bit-true}
-use Rattle.node.specs.declared.Status.{Status}
-use Rattle.node.specs.declared.Status.the-variants.{Out, Ins, In, Del}
-use Rattle.node.specs.declared.Kind.{Kind}
-use Rattle.node.specs.declared.Kind.the-variants.{SetR, SetRAck, SetRNak, SetL}
+use Rattle.parts.specs.declared.Status.{Status}
+use Rattle.parts.specs.declared.Status.the-variants.{Out, Ins, In, Del}
+use Rattle.parts.specs.declared.Kind.{Kind}
+use Rattle.parts.specs.declared.Kind.the-variants.{SetR, SetRAck, SetRNak, SetL}
+use Rattle.parts.specs.declared.Message.{Message}
 use Rattle.node.specs.declared.Node.{Node}
-use Rattle.node.specs.declared.Message.{Message}
 use Rattle.node.specs.Actions.{setR, setRAck, setRNak}
 use Rattle.protocol.specs.State.{State, isAckTo, isDealingOf, dealings}
 use Rattle.protocol.specs.Calls.{messageAt, without}

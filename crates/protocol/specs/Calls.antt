@@ -10,12 +10,12 @@ use Rattle.truth.specs.Tests.{everyBelow}
 use Rattle.refusal.specs.Code.{Reason}
 use Rattle.refusal.specs.Rules.{Coded, done, no, Rule, _when_, ruled}
 use Rattle.serial.specs.Serial.{inRange}
+use Rattle.parts.specs.declared.Message.{Message}
+use Rattle.parts.specs.Tests.{isOut}
 use Rattle.node.specs.declared.Node.{Node}
-use Rattle.node.specs.declared.Message.{Message}
 use Rattle.node.specs.declared.Peer.{Peer}
 use Rattle.node.specs.declared.Outcome.{Outcome}
 use Rattle.node.specs.Shape.{declaredOf, capacity}
-use Rattle.node.specs.Tests.{isOut}
 use Rattle.node.specs.Actions.{Effect, setRNak, createOf, joinRules as joinStepRules, joinOf, alone, leaveRules as leaveStepRules, leaveOf, wouldGrant, receiveOf}
 use Rattle.protocol.specs.declared.Call.{Call}
 use Rattle.protocol.specs.declared.Order.the-variants.{Declare, Create, Join, Leave}

@@ -8,12 +8,12 @@ use lib.ListN.{length}
 use lib.Dec.{T}
 use Rattle.truth.specs.Tests.{bit, count}
 use Rattle.links.specs.Walk.{Circuit, Predecessor}
-use Rattle.node.specs.declared.Link.the-variants.{To}
-use Rattle.node.specs.declared.Message.{Message}
+use Rattle.parts.specs.declared.Link.the-variants.{To}
+use Rattle.parts.specs.declared.Message.{Message}
 use Rattle.protocol.specs.declared.Call.{Call}
 use Rattle.protocol.specs.declared.Call.the-variants.{Deliver}
 use Rattle.protocol.specs.State.{State, keyAt, leftAt, rightAt, noticeWaits, wellFormed, numbersFit, inserted}
-use Rattle.node.specs.Tests.{isRequest}
+use Rattle.parts.specs.Tests.{isRequest}
 use Rattle.protocol.specs.Calls.{applyOf}
 use Rattle.protocol.specs.History.{History, history}
 use Rattle.protocol.specs.Answer.{accepted}

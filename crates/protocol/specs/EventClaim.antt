@@ -7,7 +7,7 @@ use Prim.Native.Nat.{ℕ}
 use lib.Dec.{T}
 use Rattle.interval.specs.Interval.{between}
 use Rattle.links.specs.Ring.{Ring, withMember, withoutMember}
-use Rattle.node.specs.declared.Link.the-variants.{To}
+use Rattle.parts.specs.declared.Link.the-variants.{To}
 use Rattle.protocol.specs.declared.Call.{Call}
 use Rattle.protocol.specs.State.{State, keyAt, rightAt}
 use Rattle.protocol.specs.Events.{Event, stays, founded, admitted, released, emptied}

@@ -4,7 +4,7 @@ use Prim.Native.Nat.{ℕ}
 use mathlib.Core.Bool.{Bool, true, false, cond}
 use lib.Dec.{eqb}
 use Rattle.refusal.specs.Rules.{Coded}
-use Rattle.node.specs.declared.Message.{Message}
+use Rattle.parts.specs.declared.Message.{Message}
 use Rattle.protocol.specs.declared.Call.{Call}
 use Rattle.protocol.specs.declared.Order.the-variants.{Declare, Create, Join, Leave}
 use Rattle.protocol.specs.declared.Call.the-variants.{Order, Deliver}

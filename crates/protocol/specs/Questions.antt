@@ -9,8 +9,8 @@ use Rattle.refusal.specs.Code.{plain}
 use Rattle.refusal.specs.Rules.{Coded, done, no, Rule, _when_, ruled}
 use Rattle.serial.specs.Serial.{inRange}
 use Rattle.interval.specs.Interval.{within}
-use Rattle.node.specs.declared.Link.{Link}
-use Rattle.node.specs.declared.Link.the-variants.{Unlinked, To}
+use Rattle.parts.specs.declared.Link.{Link}
+use Rattle.parts.specs.declared.Link.the-variants.{Unlinked, To}
 use Rattle.protocol.specs.declared.Reply.{Reply}
 use Rattle.protocol.specs.declared.Reply.the-variants.{Owner, Inserted}
 use Rattle.protocol.specs.State.{State, declared, keyAt, rightAt, wellFormed, inserted}

@@ -7,13 +7,14 @@ use lib.ListN.{length, getD}
 use lib.Dec.{ltb, leb, eqb}
 use Rattle.truth.specs.Tests.{count, any, every, everyBelow}
 use Rattle.sequence.specs.Sequence.{isSeq}
-use Rattle.node.specs.declared.Status.{Status}
-use Rattle.node.specs.declared.Status.the-variants.{Out, Ins, In, Del}
-use Rattle.node.specs.declared.Link.{Link}
+use Rattle.parts.specs.declared.Status.{Status}
+use Rattle.parts.specs.declared.Status.the-variants.{Out, Ins, In, Del}
+use Rattle.parts.specs.declared.Link.{Link}
+use Rattle.parts.specs.declared.Message.{Message}
+use Rattle.parts.specs.Tests.{isRequest, isAck, isAnswer, isNotice, seqFits, numberFits}
+use Rattle.parts.specs.Shape.{messageFits}
 use Rattle.node.specs.declared.Node.{Node}
-use Rattle.node.specs.declared.Message.{Message}
-use Rattle.node.specs.Tests.{isRequest, isAck, isAnswer, isNotice, seqFits, numberFits}
-use Rattle.node.specs.Shape.{declaredOf, capacity, nodeFits, messageFits}
+use Rattle.node.specs.Shape.{declaredOf, capacity, nodeFits}
 
 -- a node's number is its place among the nodes; messages stand in the order posted
 pub record State : Type 0 where

@@ -6,7 +6,7 @@ use mathlib.Core.List.{List}
 use native.Mathlib.Omega.{arith}
 use borrow.Author.Needs.{needs}
 use lib.ListN.{length, getD, set, length-set}
-use Rattle.node.specs.declared.Message.{Message}
+use Rattle.parts.specs.declared.Message.{Message}
 use Rattle.network.specs.Arrays.{vacantMessage}
 use Rattle.network.proofs.Places.{zeroMessage}
 use Rattle.access.proofs.Shift.{shifted, shift-start, shift-again, shift-done}

@@ -2,7 +2,7 @@
 -- place. Assumes nothing.
 use native.Mathlib.Omega.{arith}
 use borrow.Author.Needs.{needs}
-use Rattle.node.specs.Actions.{posted as listed}
+use Rattle.parts.specs.Posts.{posted as listed}
 use Rattle.access.proofs.Stores.{delivered-arrays}
 use Rattle.access.proofs.by_value.delivered.Statement.{statement}
 use Rattle.access.proofs.by_value.delivered.Tie as tie

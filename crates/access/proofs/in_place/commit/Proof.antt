@@ -30,8 +30,8 @@ use denote.Triple.Spec.{Meets, tripleOf}
 use denote.Triple.Statement.{Contract, Triple}
 use denote.Triple.Table.{entered, cited}
 use Rattle.node.specs.declared.Node.{Node}
-use Rattle.node.specs.declared.Posts.{Posts}
-use Rattle.node.specs.Actions.{posted as listed}
+use Rattle.parts.specs.declared.Posts.{Posts}
+use Rattle.parts.specs.Posts.{posted as listed}
 use Rattle.network.specs.declared.Network.{Network}
 use Rattle.network.proofs.Network as net
 use Rattle.access.specs.declared.Change.{Change}

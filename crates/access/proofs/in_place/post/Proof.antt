@@ -29,10 +29,10 @@ use denote.Builtin.{unit}
 use denote.Enum.Laws as enum
 use denote.Triple.Spec.{Meets, tripleOf}
 use denote.Triple.Table.{entered}
-use Rattle.node.specs.declared.Posts.{Posts}
-use Rattle.node.specs.Actions.{posted as listed}
-use Rattle.node.proofs.Posts as posts
-use Rattle.node.proofs.Posts.Laws as posts-laws
+use Rattle.parts.specs.declared.Posts.{Posts}
+use Rattle.parts.specs.Posts.{posted as listed}
+use Rattle.parts.proofs.Posts as posts
+use Rattle.parts.proofs.Posts.Laws as posts-laws
 use Rattle.network.specs.declared.Network.{Network}
 use Rattle.network.proofs.Network as net
 use Rattle.access.specs.Changes.{allPosted}
@@ -43,7 +43,7 @@ use Rattle.access.proofs.Data.{no-value}
 use Rattle.access.proofs.Frame.{Held, Gives, gives, framed}
 use Rattle.access.proofs.Places.{postsVal, MessageIs, PostsIs, some-posts, Known, known, withMessages, withWaiting}
 use Rattle.access.proofs.Places.{lies, by-posts, message-typed, posts-typed, message-opens, waiting-opens, waiting-shows}
-use Rattle.node.specs.declared.Posts.the-variants.{One, Two}
+use Rattle.parts.specs.declared.Posts.the-variants.{One, Two}
 use Rattle.access.proofs.in_place.post as this
 use Rattle.access.proofs.in_place.post.Key.{name as #access·in-place·post}
 use Rattle.access.proofs.in_place.post.Statement.{statement}

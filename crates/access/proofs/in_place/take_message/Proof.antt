@@ -31,7 +31,7 @@ use denote.Builtin.{unit}
 use denote.Triple.Spec.{Meets, tripleOf}
 use denote.Triple.Table.{entered}
 use borrow.Author.Tests.{ltb-true, ltb-false}
-use Rattle.node.specs.declared.Message.{Message}
+use Rattle.parts.specs.declared.Message.{Message}
 use Rattle.network.specs.declared.Network.{Network}
 use Rattle.network.specs.Arrays.{vacantMessage}
 use Rattle.network.proofs.Network as net

@@ -9,7 +9,7 @@ use borrow.Author.Needs.{needs}
 use lib.ListN.{getD}
 use Rattle.truth.specs.Tests.{everyBelow}
 use Rattle.sequence.specs.Sequence.{firstSeq}
-use Rattle.node.specs.Tests.{isOut}
+use Rattle.parts.specs.Tests.{isOut}
 use Rattle.network.specs.Arrays.{vacantNode}
 use Rattle.access.proofs.search.all_out.Statement.{statement}
 use Rattle.access.proofs.search.all_out.Tie as tie

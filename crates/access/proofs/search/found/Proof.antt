@@ -11,7 +11,7 @@ use lib.ListN.{getD, take}
 use Rattle.truth.specs.Tests.{everyBelow, any}
 use Rattle.truth.proofs.Laws.{by-test}
 use Rattle.node.specs.Shape.{capacity}
-use Rattle.node.specs.Tests.{isOut}
+use Rattle.parts.specs.Tests.{isOut}
 use Rattle.protocol.specs.State.{queueLimit, isNoticeTo}
 use Rattle.network.specs.declared.Network.{Network}
 use Rattle.network.specs.Arrays.{vacantNode}

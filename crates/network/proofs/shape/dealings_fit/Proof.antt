@@ -8,9 +8,9 @@ use native.Mathlib.Omega.{arith}
 use borrow.Author.Needs.{needs}
 use borrow.Author.Tests.{ltb-true}
 use lib.ListN.{length, getD, length-set}
-use Rattle.node.specs.declared.Link.the-variants.{To}
-use Rattle.node.specs.declared.Message.{Message}
-use Rattle.node.specs.Shape.{linkFits, messageFits}
+use Rattle.parts.specs.declared.Link.the-variants.{To}
+use Rattle.parts.specs.declared.Message.{Message}
+use Rattle.parts.specs.Shape.{linkFits, messageFits}
 use Rattle.network.specs.Walks.{dealerBy}
 use Rattle.network.proofs.Places.{zeroMessage, element-passes}
 use Rattle.network.proofs.Dealings.{dealer-fits, Spent, nothing-spent, none-spent, one-spent, one-too-many, all-within}

@@ -8,7 +8,7 @@ use native.Mathlib.Numerals.{add-one}
 use borrow.Author.Needs.{needs}
 use lib.ListN.{length}
 use Rattle.truth.specs.Tests.{everyBelow}
-use Rattle.node.specs.Shape.{messageFits}
+use Rattle.parts.specs.Shape.{messageFits}
 use Rattle.network.specs.Arrays.{vacantMessage, isVacantMessage}
 use Rattle.network.specs.Walks.{placeFits}
 use Rattle.network.proofs.Places.{zeroMessage, same-element}

@@ -1,7 +1,7 @@
--- `node::Link::links_to` meets its contract: the match says which link it is. Assumes nothing.
+-- `parts::Link::links_to` meets its contract: the match says which link it is. Assumes nothing.
 use borrow.Author.Needs.{needs}
-use Rattle.node.proofs.Link.links_to.Statement.{statement}
-use Rattle.node.proofs.Link.links_to.Tie as tie
+use Rattle.parts.proofs.Link.links_to.Statement.{statement}
+use Rattle.parts.proofs.Link.links_to.Tie as tie
 
 returns-2 : tie.Need-returns-2
 returns-2 c = rw (c .before .self .given .1)

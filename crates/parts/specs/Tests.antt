@@ -4,14 +4,14 @@ use Prim.Native.Nat.{ℕ}
 use mathlib.Core.Bool.{Bool, true, false, _||_}
 use lib.Dec.{eqb}
 use Rattle.sequence.specs.Sequence.{Number, firstSeq, isSeq}
-use Rattle.node.specs.declared.Status.{Status}
-use Rattle.node.specs.declared.Status.the-variants.{Out, Ins, In, Del}
-use Rattle.node.specs.declared.Link.{Link}
-use Rattle.node.specs.declared.Link.the-variants.{Unlinked, To}
-use Rattle.node.specs.declared.Seq.{Seq}
-use Rattle.node.specs.declared.Seq.the-variants.{Unset, Is}
-use Rattle.node.specs.declared.Kind.{Kind}
-use Rattle.node.specs.declared.Kind.the-variants.{SetR, SetRAck, SetRNak, SetL}
+use Rattle.parts.specs.declared.Status.{Status}
+use Rattle.parts.specs.declared.Status.the-variants.{Out, Ins, In, Del}
+use Rattle.parts.specs.declared.Link.{Link}
+use Rattle.parts.specs.declared.Link.the-variants.{Unlinked, To}
+use Rattle.parts.specs.declared.Seq.{Seq}
+use Rattle.parts.specs.declared.Seq.the-variants.{Unset, Is}
+use Rattle.parts.specs.declared.Kind.{Kind}
+use Rattle.parts.specs.declared.Kind.the-variants.{SetR, SetRAck, SetRNak, SetL}
 
 -- ---- a status
 abbrev pub isOut : Status → Bool

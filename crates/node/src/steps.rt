@@ -3,15 +3,15 @@
 ghost use mathlib.Core.Path.{_≡_};
 ghost use Rattle.refusal.specs.Code.{reason};
 ghost use Rattle.node.specs.Actions.{effect, refused, quiet, posting, withStatus, withLeft, withRight};
-use crate::Link;
-use crate::Message;
 use crate::Node;
 use crate::Outcome;
-use crate::Posts;
-use crate::Seq;
-use crate::Status;
 use crate::Step;
 use crate::Verdict;
+use parts::Link;
+use parts::Message;
+use parts::Posts;
+use parts::Seq;
+use parts::Status;
 use refusal::Refusal;
 use sequence::Number;
 

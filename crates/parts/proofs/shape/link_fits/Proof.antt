@@ -1,7 +1,7 @@
--- `node::shape::link_fits` meets its contract: the match says which link it is. Assumes nothing.
+-- `parts::shape::link_fits` meets its contract: the match says which link it is. Assumes nothing.
 use borrow.Author.Needs.{needs}
-use Rattle.node.proofs.shape.link_fits.Statement.{statement}
-use Rattle.node.proofs.shape.link_fits.Tie as tie
+use Rattle.parts.proofs.shape.link_fits.Statement.{statement}
+use Rattle.parts.proofs.shape.link_fits.Tie as tie
 
 returns-2 : tie.Need-returns-2
 returns-2 c = rw (c .before .link .given .1)

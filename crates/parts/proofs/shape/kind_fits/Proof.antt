@@ -1,7 +1,7 @@
--- `node::shape::kind_fits` meets its contract: the match says which kind it is. Assumes nothing.
+-- `parts::shape::kind_fits` meets its contract: the match says which kind it is. Assumes nothing.
 use borrow.Author.Needs.{needs}
-use Rattle.node.proofs.shape.kind_fits.Statement.{statement}
-use Rattle.node.proofs.shape.kind_fits.Tie as tie
+use Rattle.parts.proofs.shape.kind_fits.Statement.{statement}
+use Rattle.parts.proofs.shape.kind_fits.Tie as tie
 
 returns : tie.Need-returns
 returns c = rw (c .before .kind .given .1)

@@ -1,9 +1,9 @@
-// Tests of the parts of a node and of a message, and what a link or a number that a node may lack stands for. Each goes by cases here, and
-// nowhere else.
+// Tests of the parts of a node and of a message, what a link or a number that a node may lack stands for, and how many messages a step posts.
+// Each goes by cases here, and nowhere else.
 ghost use mathlib.Core.Path.{_≡_};
 ghost use lib.ListN.{length};
-ghost use Rattle.node.specs.Tests.{isOut, isIn, isInOrDel, linked, linksTo, target, numbered, seqOf, isAck, isNak, isNotice};
-ghost use Rattle.node.specs.Actions.{posted};
+ghost use Rattle.parts.specs.Tests.{isOut, isIn, isInOrDel, linked, linksTo, target, numbered, seqOf, isAck, isNak, isNotice};
+ghost use Rattle.parts.specs.Posts.{posted};
 use crate::Kind;
 use crate::Link;
 use crate::Posts;
