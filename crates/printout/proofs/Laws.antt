@@ -21,6 +21,7 @@ use Rattle.node.specs.declared.Outcome.the-variants.{Created, Waiting, LeftAlon
 use Rattle.protocol.specs.declared.Reply.{Reply}
 use Rattle.protocol.specs.declared.Reply.the-variants.{Stepped}
 use Rattle.printout.specs.Lines.{pair, words, ending, lineOf, lastLine, hasRoom, Printed, Ended}
+use Rattle.printout.specs.Items.{Item, LastItem}
 
 -- ---- no line has more than forty bytes, and what follows its ordinal no more than thirty
 pub short-outcome : (o : Outcome) → length (ending (done (Stepped o))) ≤ 30
@@ -75,20 +76,28 @@ pub as-32-bits : {n : ℕ} → n < 2 ^ 8 → n < 2 ^ 32
 as-32-bits small = omega arith
 
 -- ---- pieces that are put one after the other
-pub put-pair : {a b c d e f word second : List ℕ} {n m at r s t u v : ℕ} → at + 30 ≤ length a → leb (length word + length second) 14 ≡ true → n < 2 ^ 16
-    → m < 2 ^ 32 → Put a at word b r → Put b r (decimal n) c s → Put c s second d t → Put d t (decimal m) e u → Put e u (ascii "\n") f v
-    → Put a at (pair word n second m ++ ascii "\n") f v × (length (pair word n second m ++ ascii "\n") ≤ 30)
-put-pair {word = word} {second} {n} {m} room short small large first number other more end =
+pub item-keeps-length : {a b word : List ℕ} {n at r : ℕ} → Item a at word n b r → length b ≡ length a
+item-keeps-length i = put-keeps-length (i .second) ∙ put-keeps-length (i .first)
+
+pub last-item-keeps-length : {a b word : List ℕ} {n at r : ℕ} → LastItem a at word n b r → length b ≡ length a
+last-item-keeps-length l = put-keeps-length (l .end) ∙ item-keeps-length (l .item)
+
+pub put-pair : {a b c word second : List ℕ} {n m at r s : ℕ} → at + 30 ≤ length a → leb (length word + length second) 14 ≡ true → n < 2 ^ 16
+    → m < 2 ^ 32 → Item a at word n b r → LastItem b r second m c s
+    → Put a at (pair word n second m ++ ascii "\n") c s × (length (pair word n second m ++ ascii "\n") ≤ 30)
+put-pair {word = word} {second} {n} {m} room short small large one last =
     let few = short-pair word n second m short small large in
     let fewer = length-append (pair word n second m) (ascii "\n") in
-    (put-both (put-four first number other more (omega (arith, room, few, fewer))) end (omega (arith, room, few)), few)
+    let other = last .item in
+    let pieces = put-four (one .first) (one .second) (other .first) (other .second) (omega (arith, room, few, fewer)) in
+    (put-both pieces (last .end) (omega (arith, room, few)), few)
 
-pub put-refusal : {a b c d : List ℕ} {n at r s t : ℕ} → at + 30 ≤ length a → n < 2 ^ 8 → Put a at (ascii " no ") b r → Put b r (decimal n) c s
-    → Put c s (ascii "\n") d t → Ended a at (no (plain n)) d t
-put-refusal {n = n} room small first number end =
+pub put-refusal : {a b : List ℕ} {n at r : ℕ} → at + 30 ≤ length a → n < 2 ^ 8 → LastItem a at (ascii " no ") n b r → Ended a at (no (plain n)) b r
+put-refusal {n = n} room small last =
     let few = short-refusal n small in
     let fewer = length-append (ascii " no " ++ decimal n) (ascii "\n") in
-    record { put = put-both (put-both first number (omega (arith, room, few, fewer))) end (omega (arith, room, few)); short = few }
+    let pieces = put-both (last .item .first) (last .item .second) (omega (arith, room, few, fewer)) in
+    record { put = put-both pieces (last .end) (omega (arith, room, few)); short = few }
 
 -- an ordinal leaves thirty of forty bytes
 pub after-ordinal : {text between : List ℕ} {ordinal at r : ℕ} → at + 40 ≤ length text → ordinal < 2 ^ 32 → Put text at (decimal ordinal) between r
@@ -123,13 +132,11 @@ printed-line {text} {at = at} {ordinal} {w = w} room large number rest =
     let its-length = ap length (line-parts ordinal w) in
     printed room short (rw line-parts (put-both number (rest .put) (omega (arith, room, short, its-length))))
 
-pub printed-last : {a b c d e f : List ℕ} {waiting posted at r s t u v : ℕ} → at + 40 ≤ length a → waiting < 2 ^ 8 → posted < 2 ^ 32
-    → Put a at (ascii "end ") b r → Put b r (decimal waiting) c s → Put c s (ascii " posted ") d t → Put d t (decimal posted) e u
-    → Put e u (ascii "\n") f v → Printed a at (lastLine waiting posted) f v
+pub printed-last : {a b c : List ℕ} {waiting posted at r s : ℕ} → at + 40 ≤ length a → waiting < 2 ^ 8 → posted < 2 ^ 32
+    → Item a at (ascii "end ") waiting b r → LastItem b r (ascii " posted ") posted c s → Printed a at (lastLine waiting posted) c s
 unfolding lastLine
-printed-last {waiting = waiting} {posted} room small large first number other more end =
-    printed room (short-last-line waiting posted small large)
-    (put-pair (omega (arith, room)) refl (omega arith) large first number other more end .0)
+printed-last {waiting = waiting} {posted} room small large one last =
+    printed room (short-last-line waiting posted small large) (put-pair (omega (arith, room)) refl (omega arith) large one last .0)
 
 pub printed-keeps-length : {text line after : List ℕ} {at r : ℕ} → Printed text at line after r → length after ≡ length text
 printed-keeps-length {text} {line} {after} {at} p =

@@ -9,6 +9,7 @@ ghost use Rattle.refusal.specs.Code.{reason};
 ghost use Rattle.refusal.specs.Rules.{done, no};
 ghost use Rattle.protocol.specs.declared.Reply.the-variants.{Declared, Stepped, Owner, Ran};
 ghost use Rattle.printout.specs.Lines.{lineOf, lastLine, ending, Ended, Printed};
+ghost use Rattle.printout.specs.Items.{Item, LastItem};
 use node::Outcome;
 use protocol::Reply;
 use refusal::Refusal;
@@ -32,37 +33,44 @@ fn put_outcome(text: &mut [u8], at: usize, outcome: Outcome) -> usize
     }
 }
 
+// An item of a line: a word, and a number after it.
+fn put_item(text: &mut [u8], at: usize, word: &[u8], n: u32) -> usize
+    ensures { λ r. ⌜ Item (now (text .entry)) at (now (word .entry)) n (now (text .exit)) r ⌝ }
+{
+    let at = text::append(text, at, word);
+    text::append_decimal(text, at, n)
+}
+
+// The last item of a line, with the line end after it.
+fn put_last_item(text: &mut [u8], at: usize, word: &[u8], n: u32) -> usize
+    ensures { λ r. ⌜ LastItem (now (text .entry)) at (now (word .entry)) n (now (text .exit)) r ⌝ }
+{
+    let at = put_item(text, at, word, n);
+    text::append(text, at, b"\n")
+}
+
 fn put_bench(text: &mut [u8], at: usize, number: u8, key: u32) -> usize
     requires { ⌜ at + 30 ≤ length (now text) ⌝ }
     ensures { λ r. ⌜ Ended (now (text .entry)) at (done (Declared number key)) (now (text .exit)) r ⌝ }
 {
-    let at = text::append(text, at, b" bench ");
-    let at = text::append_decimal(text, at, number as u32);
-    let at = text::append(text, at, b" key ");
-    let at = text::append_decimal(text, at, key);
-    text::append(text, at, b"\n")
+    let at = put_item(text, at, b" bench ", number as u32);
+    put_last_item(text, at, b" key ", key)
 }
 
 fn put_owner(text: &mut [u8], at: usize, node: u8, hops: u8) -> usize
     requires { ⌜ at + 30 ≤ length (now text) ⌝ }
     ensures { λ r. ⌜ Ended (now (text .entry)) at (done (Owner node hops)) (now (text .exit)) r ⌝ }
 {
-    let at = text::append(text, at, b" owner ");
-    let at = text::append_decimal(text, at, node as u32);
-    let at = text::append(text, at, b" hops ");
-    let at = text::append_decimal(text, at, hops as u32);
-    text::append(text, at, b"\n")
+    let at = put_item(text, at, b" owner ", node as u32);
+    put_last_item(text, at, b" hops ", hops as u32)
 }
 
 fn put_ran(text: &mut [u8], at: usize, made: u16, left: u8) -> usize
     requires { ⌜ at + 30 ≤ length (now text) ⌝ }
     ensures { λ r. ⌜ Ended (now (text .entry)) at (done (Ran made left)) (now (text .exit)) r ⌝ }
 {
-    let at = text::append(text, at, b" ran ");
-    let at = text::append_decimal(text, at, made as u32);
-    let at = text::append(text, at, b" left ");
-    let at = text::append_decimal(text, at, left as u32);
-    text::append(text, at, b"\n")
+    let at = put_item(text, at, b" ran ", made as u32);
+    put_last_item(text, at, b" left ", left as u32)
 }
 
 fn put_reply(text: &mut [u8], at: usize, reply: Reply) -> usize
@@ -110,9 +118,7 @@ pub fn refusal_line(text: &mut [u8], at: usize, ordinal: u32, refusal: Refusal) 
         return at;
     }
     let at = text::append_decimal(text, at, ordinal);
-    let at = text::append(text, at, b" no ");
-    let at = text::append_decimal(text, at, refusal.number() as u32);
-    text::append(text, at, b"\n")
+    put_last_item(text, at, b" no ", refusal.number() as u32)
 }
 
 // The last line, from the messages that wait and all that were ever posted.
@@ -122,9 +128,6 @@ pub fn last_line(text: &mut [u8], at: usize, waiting: u8, posted: u32) -> usize
     if is_full(text.len(), at) {
         return at;
     }
-    let at = text::append(text, at, b"end ");
-    let at = text::append_decimal(text, at, waiting as u32);
-    let at = text::append(text, at, b" posted ");
-    let at = text::append_decimal(text, at, posted);
-    text::append(text, at, b"\n")
+    let at = put_item(text, at, b"end ", waiting as u32);
+    put_last_item(text, at, b" posted ", posted)
 }

@@ -1,2 +1,3 @@
 pub mod Laws
+pub mod MarkLaws
 pub mod Examples

@@ -2,10 +2,8 @@
 // in the record as a number or as the refusal that comes at the serial's turn, after those of the fields before it.
 ghost use mathlib.Core.Path.{_≡_};
 ghost use Prim.Native.Nat.{_<_};
-ghost use mathlib.Core.Bool.{cond, _&&_};
 ghost use mathlib.Core.List.{[], _∷_, reverse};
 ghost use lib.ListN.{getD};
-ghost use lib.Dec.{eqb};
 ghost use Rattle.serial.specs.Serial.{packedOf, binaryOf, positional};
 ghost use Rattle.script.specs.Script.{markOf, sizeOf, four, recordOf, readAt, reading};
 use protocol::Call;
@@ -47,29 +45,41 @@ pub enum Reading {
     Next { record: Record, after: usize },
 }
 
-// One more entry of the table, before those of `rest`: `first` and `second` are the letters of `mark`.
-fn or(a: u8, b: u8, first: u8, second: u8, mark: Mark, rest: Lookup) -> Lookup
-    ensures { λ r. ⌜ r ≡ cond (eqb a first && eqb b second) (Lookup.Known mark) rest ⌝ }
-{
-    if (a == first) & (b == second) {
-        Lookup::Known(mark)
-    } else {
-        rest
-    }
-}
+// The letters of each mark as one number, the first its high byte: the look-up is then a search among nine numbers, and not two tests for each
+// mark in turn.
+const BC: u16 = 0x4243;
+
+const BN: u16 = 0x424E;
+
+const CR: u16 = 0x4352;
+
+const JN: u16 = 0x4A4E;
+
+const LV: u16 = 0x4C56;
+
+const DL: u16 = 0x444C;
+
+const OC: u16 = 0x4F43;
+
+const ON: u16 = 0x4F4E;
+
+const RD: u16 = 0x5244;
 
 fn look_up(a: u8, b: u8) -> Lookup
     ensures { λ r. ⌜ r ≡ markOf a b ⌝ }
 {
-    let drain = or(a, b, b'R', b'D', Mark::Drain, Lookup::Unknown);
-    let owner = or(a, b, b'O', b'N', Mark::BinaryOwner, drain);
-    let owner = or(a, b, b'O', b'C', Mark::PackedOwner, owner);
-    let deliver = or(a, b, b'D', b'L', Mark::Deliver, owner);
-    let leave = or(a, b, b'L', b'V', Mark::Leave, deliver);
-    let join = or(a, b, b'J', b'N', Mark::Join, leave);
-    let create = or(a, b, b'C', b'R', Mark::Create, join);
-    let declare = or(a, b, b'B', b'N', Mark::BinaryDeclare, create);
-    or(a, b, b'B', b'C', Mark::PackedDeclare, declare)
+    match 256 * a as u16 + b as u16 {
+        BC => Lookup::Known(Mark::PackedDeclare),
+        BN => Lookup::Known(Mark::BinaryDeclare),
+        CR => Lookup::Known(Mark::Create),
+        JN => Lookup::Known(Mark::Join),
+        LV => Lookup::Known(Mark::Leave),
+        DL => Lookup::Known(Mark::Deliver),
+        OC => Lookup::Known(Mark::PackedOwner),
+        ON => Lookup::Known(Mark::BinaryOwner),
+        RD => Lookup::Known(Mark::Drain),
+        _ => Lookup::Unknown,
+    }
 }
 
 fn size_of(mark: Mark) -> usize

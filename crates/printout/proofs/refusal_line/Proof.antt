@@ -1,5 +1,4 @@
--- `printout::refusal_line` meets its contract: ordinal, word, number and line end are put one after the other where there is room.
--- Assumes nothing.
+-- `printout::refusal_line` meets its contract: the ordinal is put and an item after it, where there is room. Assumes nothing.
 use mathlib.Core.Path.{refl}
 use borrow.Author.Needs.{needs}
 use Rattle.text.proofs.Laws.{put}
@@ -9,18 +8,15 @@ use Rattle.printout.proofs.refusal_line.Tie as tie
 
 whole : tie.Need-returns-2
 whole c =
-    let end = c .before .before in
-    let code = end .before .before .before .before .before in
-    let word = code .before .before .before .before .before in
-    let number = word .before .before .before .before .before in
+    let last = c .before .before in
+    let code = last .before in
+    let number = code .before .before .before .before .before in
     let test = number .before .before in
     let large = test .before .before .before .fits .ordinal .fits in
     let room = roomy (test .before .is-full .ensures) (test .if1 .left) in
     let ordinal = put (number .append-decimal .ensures) in
-    rw (← code .before .number .ensures)
-    (printed-line room large ordinal
-    (put-refusal (after-ordinal room large ordinal) (code .before .number .ok) (put (word .append .ensures)) (put (code .append-decimal2 .ensures))
-    (put (end .append2 .ensures))))
+    rw (← code .number .ensures)
+    (printed-line room large ordinal (put-refusal (after-ordinal room large ordinal) (code .number .ok) (last .put-last-item .ensures)))
 
 pub refusal-line-spec : {M : Type 1} → statement M
 refusal-line-spec =
@@ -31,10 +27,7 @@ refusal-line-spec =
     (λ c κs. tt)
     (λ c. refl)
     (λ c κs. tt)
-    (λ c κs. tt)
     (λ c. search needs)
-    (λ c κs. tt)
-    (λ c. refl)
     (λ c κs. tt)
     (λ c. printed-keeps-length (whole c))
     whole)
