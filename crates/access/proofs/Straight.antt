@@ -1,7 +1,9 @@
 -- Control rules that keep a walk in one line: no body, environment or context is written out. Over no type of this crate.
 --     switch-to        a `switch` whose tag is a numeral: the arm that runs, and the rest of the code behind it, as one sequence
 --     branch-to        an `if` whose outcome is known, the same. A `return` in an arm ends the walk of that arm
---     joins            arms that come to the same but for two values, of which P is known, and then what they join in
+--     joins            arms that come to the same but for two values, of which P is known, and then what they join in. The context there is said, as a
+--                      change of the one before: antt would take seconds to find that of one arm the same as that of another
+--     comes-to         the same of arms that come to no value
 --     by-name          a value gets a name, so that what holds it can be told in two arms to be the same
 --     loops-on         a loop whose invariant is entry 0 of the context; the entries behind it are the same at each turn
 --     turns-on         the end of a turn: the invariant again, at a smaller measure
@@ -102,9 +104,12 @@ module _ {M : Type 1} {𝓤 : URA M} {H : Heap 𝓤} {A : Atoms 𝓤} {K : Type 
   branch-to t 𝓣 {E} {q} {c} {a} {b} {rest} true o = step (λ s. first t $ branches t o (λ _. record { prf = via 𝓤 _ (s .prf) (straight 𝓤 H A W 𝓣 E (post 𝓤 H q) a rest) }) (λ z. absurd z))
   branch-to t 𝓣 {E} {q} {c} {a} {b} {rest} false o = step (λ s. first t $ branches t o (λ z. absurd z) (λ _. record { prf = via 𝓤 _ (s .prf) (straight 𝓤 H A W 𝓣 E (post 𝓤 H q) b rest) }))
 
-  pub joins : K → {X Y : Type 0} (P : X → Y → Type 0) {Γ′ : X → Y → List (Item 𝓤)} {G G′ : Goal 𝓤 H} → (((x : X) (y : Y) → P x y → Seq K W (Γ′ x y) G′) → Seq K W Γ G)
-      → ((x : X) (y : Y) → P x y → Seq K W (Γ′ x y) G′) → Seq K W Γ G
-  joins t P arms goes-on = arms goes-on
+  pub joins : K → {X Y : Type 0} (P : X → Y → Type 0) (Γ′ : List (Item 𝓤) → X → Y → List (Item 𝓤)) {G G′ : Goal 𝓤 H} → (((x : X) (y : Y) → P x y → Seq K W (Γ′ Γ x y) G′) → Seq K W Γ G)
+      → ((x : X) (y : Y) → P x y → Seq K W (Γ′ Γ x y) G′) → Seq K W Γ G
+  joins t P Γ′ arms goes-on = arms goes-on
+
+  pub comes-to : K → (Γ′ : List (Item 𝓤) → List (Item 𝓤)) {G G′ : Goal 𝓤 H} → (Seq K W (Γ′ Γ) G′ → Seq K W Γ G) → Step K W (Γ′ Γ) G′ Γ G
+  comes-to t Γ′ arms = step arms
 
   pub by-name : K → {X : Type 0} {G : Goal 𝓤 H} (x : X) → ((y : X) → x ≡ y → Seq K W Γ G) → Seq K W Γ G
   by-name t x k = k x refl
