@@ -5,6 +5,7 @@ pub mod Fitting
 pub mod Inside
 pub mod Straight
 pub mod Locals
+pub mod Ending
 pub mod Variants
 pub mod Data
 pub mod Frame
