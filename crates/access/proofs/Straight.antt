@@ -1,11 +1,15 @@
 -- Control rules that keep a walk in one line: no body, environment or context is written out. Over no type of this crate.
 --     switch-to        a `switch` whose tag is a numeral: the arm that runs, and the rest of the code behind it, as one sequence
 --     branch-to        an `if` whose outcome is known, the same. A `return` in an arm ends the walk of that arm
+--     joins            arms that come to the same but for two values, of which P is known, and then what they join in. The context there is said, as a
+--                      change of the one before: antt would take seconds to find that of one arm the same as that of another
+--     comes-to         the same of arms that come to no value
+--     by-name          a value gets a name, so that what holds it can be told in two arms to be the same
 --     loops-on         a loop whose invariant is entry 0 of the context; the entries behind it are the same at each turn
 --     turns-on         the end of a turn: the invariant again, at a smaller measure
 --     leaves-while     the test of a `while` has failed: the code behind the loop runs
 -- Assumes `Given`, and a `Tables`.
-use mathlib.Core.Path.{_≡_, sym, subst}
+use mathlib.Core.Path.{_≡_, refl, sym, subst}
 use mathlib.Core.Bool.{Bool, true, false}
 use mathlib.Core.List.{List, _∷_}
 use Prim.Native.Nat.{ℕ, _<_}
@@ -18,7 +22,7 @@ use base.Logic.{SProp, ent, id⊢, via}
 use prog.Wp.{Heap, Calls, Loops, Out, next, exits, returns, Env, Wp, WpArms, Tables, afterSeq, afterTurn, atReturn, branch}
 use ghost.Atoms.{Atoms}
 use sound.WpLaws.{Wp-mono}
-use types.Kit.{Given, Item, ⋆, Post, post, anyQ, atRet, runs, prop, Seq, Step, step, _$_}
+use types.Kit.{Given, Item, Goal, ⋆, Post, post, anyQ, atRet, runs, prop, Seq, Step, step, _$_}
 use types.Run.{Opd, first, branches, switches-on, loops, leaves-loop, Below, again}
 
 -- a body with more code behind it, as one sequence
@@ -99,6 +103,16 @@ module _ {M : Type 1} {𝓤 : URA M} {H : Heap 𝓤} {A : Atoms 𝓤} {K : Type 
       → Step K W Γ (runs (𝓣 .C) (𝓣 .Λ) E (onto (either y a b) rest) q) Γ (runs (𝓣 .C) (𝓣 .Λ) E (seq (cond c a b) rest) q)
   branch-to t 𝓣 {E} {q} {c} {a} {b} {rest} true o = step (λ s. first t $ branches t o (λ _. record { prf = via 𝓤 _ (s .prf) (straight 𝓤 H A W 𝓣 E (post 𝓤 H q) a rest) }) (λ z. absurd z))
   branch-to t 𝓣 {E} {q} {c} {a} {b} {rest} false o = step (λ s. first t $ branches t o (λ z. absurd z) (λ _. record { prf = via 𝓤 _ (s .prf) (straight 𝓤 H A W 𝓣 E (post 𝓤 H q) b rest) }))
+
+  pub joins : K → {X Y : Type 0} (P : X → Y → Type 0) (Γ′ : List (Item 𝓤) → X → Y → List (Item 𝓤)) {G G′ : Goal 𝓤 H} → (((x : X) (y : Y) → P x y → Seq K W (Γ′ Γ x y) G′) → Seq K W Γ G)
+      → ((x : X) (y : Y) → P x y → Seq K W (Γ′ Γ x y) G′) → Seq K W Γ G
+  joins t P Γ′ arms goes-on = arms goes-on
+
+  pub comes-to : K → (Γ′ : List (Item 𝓤) → List (Item 𝓤)) {G G′ : Goal 𝓤 H} → (Seq K W (Γ′ Γ) G′ → Seq K W Γ G) → Step K W (Γ′ Γ) G′ Γ G
+  comes-to t Γ′ arms = step arms
+
+  pub by-name : K → {X : Type 0} {G : Goal 𝓤 H} (x : X) → ((y : X) → x ≡ y → Seq K W Γ G) → Seq K W Γ G
+  by-name t x k = k x refl
 
   pub loops-on : K → (𝓣 : Tables 𝓤 H) (I : ℕ → Item 𝓤) {E : Env 𝓤 H} {b : Body} {q : Post 𝓤 H}
       → ((t : ℕ) → Seq K W (I t ∷ Γ) (runs (𝓣 .C) (𝓣 .Λ) E b (anyQ (afterTurn 𝓤 H (Below 𝓤 H A _<_ (λ u. I u ∷ Γ) t) (post 𝓤 H q))))) → (t : ℕ) → Seq K W (I t ∷ Γ) (runs (𝓣 .C) (𝓣 .Λ) E (loop b) q)

@@ -55,12 +55,6 @@ noticeWaits n u = any (isNoticeTo u) (take (least (n .waiting) queueLimit) (n .m
 abbrev pub nothingFound : Found
 nothingFound = record { taken = false; standing = false; notice = false }
 
-abbrev pub asks : Order → Bool
-asks (Declare key) = true
-asks (Create u) = true
-asks (Join u p q) = true
-asks (Leave u) = false
-
 abbrev pub foundOf : Network → Order → Found
 foundOf n (Declare key) = record { taken = keyIsTaken n key; standing = false; notice = false }
 foundOf n (Create u) = record { taken = false; standing = someStands n; notice = noticeWaits n u }

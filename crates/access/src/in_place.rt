@@ -5,7 +5,7 @@ ghost use Prim.Native.Nat.{_+_, _<_, _≤_};
 ghost use lib.ListN.{length};
 ghost use Rattle.parts.specs.Posts.{posted as listed};
 ghost use Rattle.access.specs.Changes.{placed, added, closed, allPosted, written, committed};
-ghost use Rattle.access.specs.Sights.{sightOf, arrivalOf, foundOf};
+ghost use Rattle.access.specs.Sights.{sightOf, arrivalOf, keyIsTaken, someStands, noticeWaits, foundOf};
 use crate::Arrival;
 use crate::Change;
 use crate::Found;
@@ -141,12 +141,91 @@ pub fn meet(network: &mut Network, place: u8) -> Arrival
     }
 }
 
+// Whether one of the nodes has this key.
+fn key_is_taken(network: &mut Network, key: u32) -> bool
+    ensures { λ r. ⌜ (r ≡ keyIsTaken (now (network .entry)) key) × (now (network .exit) ≡ now (network .entry)) ⌝ }
+{
+    let count = network.count;
+    let end = search::least(count, CAPACITY);
+    let mut new = true;
+    let mut i: usize = 0;
+    while i < end {
+        let node = network.nodes[i];
+        new = new & search::has_other_key(node, key);
+        i += 1;
+    }
+    !new
+}
+
+// Whether one of the nodes is not out.
+fn some_stands(network: &mut Network) -> bool
+    ensures { λ r. ⌜ (r ≡ someStands (now (network .entry))) × (now (network .exit) ≡ now (network .entry)) ⌝ }
+{
+    let count = network.count;
+    let end = search::least(count, CAPACITY);
+    let mut out = true;
+    let mut i: usize = 0;
+    while i < end {
+        let node = network.nodes[i];
+        out = out & search::is_out(node);
+        i += 1;
+    }
+    !out
+}
+
+fn notice_waits(network: &mut Network, node: u8) -> bool
+    ensures { λ r. ⌜ (r ≡ noticeWaits (now (network .entry)) node) × (now (network .exit) ≡ now (network .entry)) ⌝ }
+{
+    let waiting = network.waiting;
+    let end = search::least(waiting, QUEUE_LIMIT);
+    let mut found = false;
+    let mut i: usize = 0;
+    while i < end {
+        let message = network.messages[i];
+        found = found | search::is_notice_to(message, node);
+        i += 1;
+    }
+    found
+}
+
 // What an order's search finds. Only an order that asks for one pays for it.
 pub fn find(network: &mut Network, order: Order) -> Found
     ensures { λ r. ⌜ (r ≡ foundOf (now (network .entry)) order) × (now (network .exit) ≡ now (network .entry)) ⌝ }
 {
-    if search::asks(order) {
-        return search::found(*network, order);
+    match order {
+        Order::Declare(key) => {
+            let taken = key_is_taken(network, key);
+            Found {
+                taken,
+                standing: false,
+                notice: false,
+            }
+        }
+        Order::Create(node) => {
+            let standing = some_stands(network);
+            let notice = notice_waits(network, node);
+            Found {
+                taken: false,
+                standing,
+                notice,
+            }
+        }
+        Order::Join {
+            node,
+            left: _,
+            right: _,
+        } => {
+            let notice = notice_waits(network, node);
+            Found {
+                taken: false,
+                standing: false,
+                notice,
+            }
+        }
+        Order::Leave(_) => Found {
+            taken: false,
+            standing: false,
+            notice: false,
+        },
     }
-    search::nothing()
 }

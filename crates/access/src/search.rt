@@ -8,7 +8,7 @@ ghost use Rattle.truth.specs.Tests.{everyBelow, any};
 ghost use Rattle.parts.specs.Tests.{isOut};
 ghost use Rattle.protocol.specs.State.{isNoticeTo};
 ghost use Rattle.network.specs.Arrays.{vacantNode};
-ghost use Rattle.access.specs.Sights.{least, asks, nothingFound, foundOf};
+ghost use Rattle.access.specs.Sights.{least, foundOf};
 use crate::Found;
 use network::CAPACITY;
 use network::Network;
@@ -16,6 +16,27 @@ use network::QUEUE_LIMIT;
 use node::Node;
 use parts::Message;
 use protocol::Order;
+
+// What each search asks of a node, or of a message.
+pub(crate) fn is_out(node: Node) -> bool
+    ensures { λ r. ⌜ r ≡ isOut (node .status) ⌝ }
+{
+    let status = node.status;
+    status.is_out()
+}
+
+pub(crate) fn has_other_key(node: Node, key: u32) -> bool
+    ensures { λ r. ⌜ r ≡ not (eqb (node .key) key) ⌝ }
+{
+    node.key != key
+}
+
+pub(crate) fn is_notice_to(message: Message, node: u8) -> bool
+    ensures { λ r. ⌜ r ≡ isNoticeTo node message ⌝ }
+{
+    let kind = message.kind;
+    kind.is_notice() & (message.to == node)
+}
 
 fn all_out(nodes: [Node; 32], count: usize) -> bool
     requires { ⌜ count ≤ 32 ⌝ }
@@ -25,8 +46,7 @@ fn all_out(nodes: [Node; 32], count: usize) -> bool
     let mut i: usize = 0;
     while i < count {
         let node = nodes[i];
-        let status = node.status;
-        ok = ok & status.is_out();
+        ok = ok & is_out(node);
         i += 1;
     }
     ok
@@ -41,7 +61,7 @@ fn key_is_new(nodes: [Node; 32], count: usize, key: u32) -> bool
     let mut i: usize = 0;
     while i < count {
         let node = nodes[i];
-        ok = ok & (node.key != key);
+        ok = ok & has_other_key(node, key);
         i += 1;
     }
     ok
@@ -55,46 +75,19 @@ fn notice_waits(messages: [Message; 64], waiting: usize, node: u8) -> bool
     let mut i: usize = 0;
     while i < waiting {
         let message = messages[i];
-        let kind = message.kind;
-        found = found | (kind.is_notice() & (message.to == node));
+        found = found | is_notice_to(message, node);
         i += 1;
     }
     found
 }
 
-fn least(n: u8, limit: u8) -> usize
+pub(crate) fn least(n: u8, limit: u8) -> usize
     ensures { λ r. ⌜ r ≡ least n limit ⌝ }
 {
     if n <= limit {
         n as usize
     } else {
         limit as usize
-    }
-}
-
-// Whether an order asks for a search.
-pub(crate) fn asks(order: Order) -> bool
-    ensures { λ r. ⌜ r ≡ asks order ⌝ }
-{
-    match order {
-        Order::Declare(_) => true,
-        Order::Create(_) => true,
-        Order::Join {
-            node: _,
-            left: _,
-            right: _,
-        } => true,
-        Order::Leave(_) => false,
-    }
-}
-
-pub(crate) fn nothing() -> Found
-    ensures { λ r. ⌜ r ≡ nothingFound ⌝ }
-{
-    Found {
-        taken: false,
-        standing: false,
-        notice: false,
     }
 }
 
@@ -126,6 +119,10 @@ pub fn found(network: Network, order: Order) -> Found
             standing: false,
             notice: notice_waits(messages, waiting, node),
         },
-        Order::Leave(_) => nothing(),
+        Order::Leave(_) => Found {
+            taken: false,
+            standing: false,
+            notice: false,
+        },
     }
 }

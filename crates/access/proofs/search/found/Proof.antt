@@ -3,26 +3,21 @@
 use Prim.Native.Nat.{ℕ, _≤_}
 use mathlib.Core.Path.{_≡_}
 use mathlib.Core.Bool.{Bool, false, not}
-use native.Mathlib.Omega.{arith}
 use borrow.Author.Needs.{needs}
-use borrow.Author.Tests.{leb-true}
-use lib.Dec.{leb, eqb}
+use lib.Dec.{eqb}
 use lib.ListN.{getD, take}
 use Rattle.truth.specs.Tests.{everyBelow, any}
-use Rattle.truth.proofs.Laws.{by-test}
 use Rattle.node.specs.Shape.{capacity}
 use Rattle.parts.specs.Tests.{isOut}
 use Rattle.protocol.specs.State.{queueLimit, isNoticeTo}
 use Rattle.network.specs.declared.Network.{Network}
 use Rattle.network.specs.Arrays.{vacantNode}
 use Rattle.access.specs.Sights.{least, keyIsTaken, someStands, noticeWaits}
+use Rattle.access.proofs.Searches.{within}
 use Rattle.access.proofs.search.found.Statement.{statement}
 use Rattle.access.proofs.search.found.Tie as tie
 
--- ---- the numbers that are searched, and what a search finds
-within : (n limit : ℕ) {r : ℕ} → r ≡ least n limit → r ≤ limit
-within n limit e = rw e (by-test (λ (k : ℕ). k ≤ limit) (leb n limit) n limit (λ t. leb-true n limit t) (λ _. omega arith))
-
+-- ---- what a search finds
 module _ (n : Network) {r : ℕ} {b : Bool} where
   taken-is : (key : ℕ) → r ≡ least (n .count) capacity → b ≡ everyBelow r (λ u. not (eqb (getD (n .nodes) u vacantNode .key) key)) → not b ≡ keyIsTaken n key
   taken-is key e found = rw (found, e)
@@ -62,6 +57,9 @@ returns-3 c =
     let notice = notice-is (network t) (c .before .before .order3 .given .0 .0) (t .least2 .ensures) (c .notice-waits2 .ensures) in
     rw (c .before .before .order3 .given .1) (λ i. record { taken = false; standing = false; notice = notice i })
 
+returns-4 : tie.Need-returns-4
+returns-4 c = rw (c .enum-told .given .1)
+
 pub found-spec : {M : Type 1} → statement M
 found-spec =
     tie.close
@@ -76,8 +74,7 @@ found-spec =
     (λ c. search needs)
     (λ c κs. messages-within (c .before .before .before))
     (λ c. search needs)
-    (λ c κs. search needs)
     returns
     returns-2
     returns-3
-    (λ c. search needs))
+    returns-4)

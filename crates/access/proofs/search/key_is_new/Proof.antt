@@ -22,10 +22,7 @@ abbrev μ-loop : tie.MeasureT-loop
 
 loop-again : tie.Need-loop-again Inv-loop μ-loop
 unfolding firstSeq
-loop-again c =
-    let loop = c .before .before .before in
-    let args = loop .before .args in
-    (search needs, rw add-one (λ i. loop .loop .inv .1 i && not (eqb (getD (args .t1) (loop .loop .i) vacantNode .key) (args .key))))
+loop-again c = (search needs, rw add-one (λ i. c .before .before .before .loop .inv .1 i && c .has-other-key .ensures i))
 
 returns : tie.Need-returns Inv-loop μ-loop
 returns c =
@@ -42,6 +39,7 @@ key-is-new-spec =
     (λ c. (omega arith, refl))
     (λ c. search needs)
     (λ c. search needs)
+    (λ c κs. tt)
     (λ c. search needs)
     (λ c. search needs)
     loop-again

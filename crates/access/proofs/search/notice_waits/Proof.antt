@@ -23,12 +23,11 @@ abbrev μ-loop : tie.MeasureT-loop
 
 loop-again : tie.Need-loop-again Inv-loop μ-loop
 loop-again c =
-    let loop = c .before .before .before .before in
+    let loop = c .before .before .before in
     let args = loop .before .args in
     let inside : loop .loop .i < length (args .t1) = omega (arith, loop .before .good .0 .1 .0 .1) in (
       search needs,
-      rw (add-one, any-take (isNoticeTo (args .node)) (args .t1) (loop .loop .i) zeroMessage inside)
-          (λ j. loop .loop .inv .1 j || (c .before .is-notice .ensures j && eqb (getD (args .t1) (loop .loop .i) zeroMessage .to) (args .node))),
+      rw (add-one, any-take (isNoticeTo (args .node)) (args .t1) (loop .loop .i) zeroMessage inside) (λ j. loop .loop .inv .1 j || c .is-notice-to .ensures j),
     )
 
 returns : tie.Need-returns Inv-loop μ-loop
