@@ -1,16 +1,4 @@
 pub mod Shift
 pub mod Searches
 pub mod Stores
-pub mod Fitting
-pub mod Inside
-pub mod Straight
-pub mod Locals
-pub mod Ending
-pub mod Variants
-pub mod Data
-pub mod Frame
-pub mod Places
-pub mod Calling
-pub mod Lending
-pub mod Reading
-pub mod Searching
+pub mod Room

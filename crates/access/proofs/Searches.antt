@@ -2,8 +2,8 @@
 -- flags are shut, so that a walk which holds one does not unfold it. Assumes nothing.
 --     others, outs, notices        the flag of each search after i turns
 --     told             what is found, from the three flags
-use Prim.Native.Nat.{ℕ, zero, _+_, _≤_, _<_}
-use mathlib.Core.Path.{_≡_, refl, sym, ap, _∙_}
+use Prim.Native.Nat.{ℕ, _+_, _≤_, _<_}
+use mathlib.Core.Path.{_≡_, refl, sym}
 use mathlib.Core.Bool.{Bool, true, false, not, _&&_, _||_}
 use native.Mathlib.Omega.{arith}
 use native.Mathlib.Numerals.{add-one}

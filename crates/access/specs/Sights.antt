@@ -1,6 +1,6 @@
 -- No rules stand here: it is what the rules of an order or a delivery look at, as it is read out of a network's arrays. Definitions only.
 use Prim.Native.Nat.{ℕ}
-use mathlib.Core.Bool.{Bool, true, false, not, cond}
+use mathlib.Core.Bool.{Bool, false, not, cond}
 use lib.ListN.{getD, take}
 use lib.Dec.{leb, eqb}
 use Prim.Native.Nat.{_%_}

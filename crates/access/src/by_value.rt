@@ -141,7 +141,7 @@ fn fits(change: Change, count: u8, waiting: u8) -> bool
 }
 
 // The change where it finds room, and else nothing.
-pub(crate) fn fitting(change: Change, count: u8, waiting: u8) -> Change
+pub fn fitting(change: Change, count: u8, waiting: u8) -> Change
     ensures { λ r. ⌜ r ≡ cond (fits count waiting (written change)) change Nothing ⌝ }
 {
     if fits(change, count, waiting) {

@@ -6,17 +6,17 @@ use parts::Message;
 use parts::Posts;
 
 mod by_value;
-mod in_place;
 mod search;
 
 pub use by_value::arrival as met;
 pub use by_value::committed;
+pub use by_value::fitting;
 pub use by_value::sight as seen;
-pub use in_place::commit;
-pub use in_place::find;
-pub use in_place::look;
-pub use in_place::meet;
 pub use search::found as searched;
+pub use search::has_other_key;
+pub use search::is_notice_to;
+pub use search::is_out;
+pub use search::least;
 
 // What a call leaves to be done in the arrays: nothing where it is refused; a node more; a node's step, with the messages that it posts; or the
 // same with the message at a place taken from the queue.

@@ -18,20 +18,20 @@ use parts::Message;
 use protocol::Order;
 
 // What each search asks of a node, or of a message.
-pub(crate) fn is_out(node: Node) -> bool
+pub fn is_out(node: Node) -> bool
     ensures { λ r. ⌜ r ≡ isOut (node .status) ⌝ }
 {
     let status = node.status;
     status.is_out()
 }
 
-pub(crate) fn has_other_key(node: Node, key: u32) -> bool
+pub fn has_other_key(node: Node, key: u32) -> bool
     ensures { λ r. ⌜ r ≡ not (eqb (node .key) key) ⌝ }
 {
     node.key != key
 }
 
-pub(crate) fn is_notice_to(message: Message, node: u8) -> bool
+pub fn is_notice_to(message: Message, node: u8) -> bool
     ensures { λ r. ⌜ r ≡ isNoticeTo node message ⌝ }
 {
     let kind = message.kind;
@@ -81,7 +81,7 @@ fn notice_waits(messages: [Message; 64], waiting: usize, node: u8) -> bool
     found
 }
 
-pub(crate) fn least(n: u8, limit: u8) -> usize
+pub fn least(n: u8, limit: u8) -> usize
     ensures { λ r. ⌜ r ≡ least n limit ⌝ }
 {
     if n <= limit {

@@ -36,18 +36,18 @@ use Rattle.network.specs.declared.Network.{Network}
 use Rattle.network.proofs.Network as net
 use Rattle.network.proofs.Network.Laws as net-laws
 use Rattle.network.proofs.Walking.{seen, had, is-val, at-val, typed}
-use Rattle.access.proofs.Locals.{var, sets, lands-in}
-use Rattle.access.proofs.Data.{Data, word, of-struct, spell, tell}
-use Rattle.access.proofs.Frame.{ended}
-use Rattle.access.proofs.Places.{networkVal, NetworkIs, network-typed, lies}
-use Rattle.access.proofs.Reading.{a-network}
-use Rattle.access.proofs.Calling.{ends-plain}
-use Rattle.access.proofs.Lending.{Lends, lends, calls-giving}
+use Rattle.stores.proofs.Locals.{var, sets, lands-in}
+use Rattle.stores.proofs.Data.{Data, word, of-struct, spell, tell}
+use Rattle.stores.proofs.Frame.{ended}
+use Rattle.stores.proofs.Places.{networkVal, NetworkIs, network-typed, lies}
+use Rattle.stores.proofs.Reading.{a-network}
+use Rattle.stores.proofs.Calling.{ends-plain}
+use Rattle.stores.proofs.Lending.{Lends, lends, calls-giving}
 use Rattle.decision.proofs.Report.Laws as report-laws
 use Rattle.engine.specs.declared.Called.{Called}
 use Rattle.engine.proofs.Called as called
 use Rattle.engine.proofs.Called.Laws as called-laws
-use Rattle.engine.proofs.Values.{IsOf, a-report, report-typed}
+use Rattle.ruling.proofs.Values.{IsOf, a-report, report-typed}
 
 abbrev pub door : Ty → Ty → Name → Fn
 door σ τ f = record {

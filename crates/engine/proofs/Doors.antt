@@ -32,13 +32,13 @@ use denote.Triple.Statement.{Contract, Triple}
 use Rattle.network.specs.declared.Network.{Network}
 use Rattle.network.proofs.Network as net
 use Rattle.network.proofs.Network.Laws as net-laws
-use Rattle.access.proofs.Locals.{var, sets, lands-in}
-use Rattle.access.proofs.Inside.{look-by}
-use Rattle.access.proofs.Data.{Data, word}
-use Rattle.access.proofs.Frame.{Held, Gives, gives}
-use Rattle.access.proofs.Places.{Known, known, lies, network-typed, whole-shows}
-use Rattle.access.proofs.Calling.{ends-plain, Plainly, calls-plain}
-use Rattle.access.proofs.Lending.{Lends, lends, calls-giving}
+use Rattle.stores.proofs.Locals.{var, sets, lands-in}
+use Rattle.stores.proofs.Inside.{look-by}
+use Rattle.stores.proofs.Data.{Data, word}
+use Rattle.stores.proofs.Frame.{Held, Gives, gives}
+use Rattle.stores.proofs.Places.{Known, known, lies, network-typed, whole-shows}
+use Rattle.stores.proofs.Calling.{ends-plain, Plainly, calls-plain}
+use Rattle.stores.proofs.Lending.{Lends, lends, calls-giving}
 use Rattle.decision.proofs.Report as report
 use Rattle.decision.proofs.Report.Laws as report-laws
 use Rattle.task.specs.declared.Task.{Task}
@@ -47,7 +47,7 @@ use Rattle.engine.specs.Computed.{doneOn, Allowed}
 use Rattle.task.proofs.Task.Laws as task-laws
 use Rattle.engine.proofs.in_place.perform as perform
 use Rattle.engine.proofs.in_place.perform.Symbol.{name as #engine·in-place·perform}
-use Rattle.access.proofs.Reading.{a-network}
+use Rattle.stores.proofs.Reading.{a-network}
 use Rattle.ruling.proofs.Values.{IsOf, a-report, report-typed}
 use Rattle.engine.proofs.TaskValues.{a-task, task-typed}
 use Rattle.engine.proofs.TaskLaws.{Reports, Admits}

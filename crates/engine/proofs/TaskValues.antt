@@ -20,7 +20,7 @@ use Rattle.protocol.specs.declared.Call.{Call}
 use Rattle.protocol.specs.declared.Answer.{Answer}
 use Rattle.protocol.proofs.Answer as answer
 use Rattle.protocol.proofs.Answer.Laws as answer-laws
-use Rattle.access.proofs.Data.{Data, word, of-enum}
+use Rattle.stores.proofs.Data.{Data, word, of-enum}
 use Rattle.task.specs.declared.Task.{Task}
 use Rattle.task.specs.declared.Task.the-variants as task-is
 use Rattle.task.proofs.Task as task

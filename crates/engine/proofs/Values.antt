@@ -8,7 +8,7 @@ use prog.Wp.{Heap}
 use ghost.Atoms.{Atoms}
 use types.Kit.{Given}
 use Rattle.network.proofs.Walking.{typed}
-use Rattle.access.proofs.Data.{Data, word, of-struct}
+use Rattle.stores.proofs.Data.{Data, word, of-struct}
 use Rattle.ruling.proofs.Values.{IsOf}
 use Rattle.engine.specs.declared.formed.Tally.{Tally}
 use Rattle.engine.proofs.formed.Tally as tally

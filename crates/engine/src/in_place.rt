@@ -21,7 +21,7 @@ fn act(network: &mut Network, call: Call) -> Report
 {
     let decision = ruling::decide_in_place(network, call);
     let change = formed::change_in(decision);
-    access::commit(network, change);
+    stores::commit(network, change);
     formed::report_in(decision)
 }
 

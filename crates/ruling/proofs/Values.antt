@@ -1,4 +1,4 @@
--- What walks need of the types that a decision meets: each as plain data (`Data.antt` of the crate `access`), and that a value of it is of its
+-- What walks need of the types that a decision meets: each as plain data (`Data.antt` of the crate `stores`), and that a value of it is of its
 -- machine type. Where a walk reads a local of a declared type it names that type, `{τ = ..}`, since antt takes long to find two spellings of it the same.
 --     IsOf D x         the value x as the machine holds it is of the type D
 --     by-call          by cases on a call
@@ -34,8 +34,8 @@ use Rattle.access.proofs.Arrival as arrival
 use Rattle.access.proofs.Arrival.Laws as arrival-laws
 use Rattle.access.proofs.Found as found
 use Rattle.access.proofs.Found.Laws as found-laws
-use Rattle.access.proofs.Data.{Data, word, of-struct, of-enum}
-use Rattle.access.proofs.Reading.{some-spots, a-sight, an-arrival, a-find, an-order}
+use Rattle.stores.proofs.Data.{Data, word, of-struct, of-enum}
+use Rattle.stores.proofs.Reading.{some-spots, a-sight, an-arrival, a-find, an-order}
 use Rattle.decision.specs.declared.Report.{Report}
 use Rattle.decision.specs.declared.Decision.{Decision}
 use Rattle.decision.proofs.Report as report

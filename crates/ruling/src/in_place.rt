@@ -13,12 +13,12 @@ pub fn decide(network: &mut Network, call: Call) -> Decision
     match call {
         Call::Order(order) => {
             let spots = decision::spots(order);
-            let sight = access::look(network, spots);
-            let found = access::find(network, order);
+            let sight = stores::look(network, spots);
+            let found = stores::find(network, order);
             decision::decide_order(order, sight, found)
         }
         Call::Deliver(place) => {
-            let arrival = access::meet(network, place);
+            let arrival = stores::meet(network, place);
             decision::decide_delivery(place, arrival)
         }
     }

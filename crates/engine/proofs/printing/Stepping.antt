@@ -35,7 +35,7 @@ use denote.Triple.Spec.{tripleOf}
 use denote.Triple.Walked.{says}
 use Rattle.network.proofs.Lengths.{Lengths, lengths}
 use Rattle.network.proofs.Walking.{seen, had, returned}
-use Rattle.access.proofs.Lending.{Loan}
+use Rattle.stores.proofs.Lending.{Loan}
 use Rattle.engine.specs.declared.printing.Kept.{Kept}
 use Rattle.engine.specs.declared.printing.Progress.{Progress}
 use Rattle.engine.proofs.printing.Kept as K

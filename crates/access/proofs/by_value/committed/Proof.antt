@@ -3,7 +3,7 @@
 use mathlib.Core.Path.{_≡_, sym, _∙_}
 use borrow.Author.Needs.{needs}
 use Rattle.access.specs.declared.Change.{Change}
-use Rattle.access.proofs.Fitting.{Fitted, fitted}
+use Rattle.access.proofs.Room.{Fitted, fitted}
 use Rattle.access.proofs.by_value.committed.Statement.{statement}
 use Rattle.access.proofs.by_value.committed.Tie as tie
 

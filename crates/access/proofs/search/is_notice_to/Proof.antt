@@ -1,5 +1,4 @@
 -- `access::search::is_notice_to` meets its contract: the kind's test and the receiver's. Assumes nothing.
-use mathlib.Core.Path.{_≡_}
 use mathlib.Core.Bool.{_&&_}
 use borrow.Author.Needs.{needs}
 use lib.Dec.{eqb}

@@ -2,12 +2,11 @@
 -- measure is what is left of them. Assumes nothing.
 use Prim.Native.Nat.{_≤_, _<_, _-_}
 use mathlib.Core.Path.{_≡_, refl, ap, _∙_}
-use mathlib.Core.Bool.{_&&_, _||_}
+use mathlib.Core.Bool.{_||_}
 use native.Mathlib.Omega.{arith}
 use native.Mathlib.Numerals.{add-one}
 use borrow.Author.Needs.{needs}
-use lib.ListN.{length, take, getD}
-use lib.Dec.{eqb}
+use lib.ListN.{length, take}
 use Rattle.truth.specs.Tests.{any}
 use Rattle.truth.proofs.TestLaws.{any-take}
 use Rattle.protocol.specs.State.{isNoticeTo}

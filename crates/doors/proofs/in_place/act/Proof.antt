@@ -13,7 +13,7 @@ use denote.Triple.Spec.{Meets, tripleOf}
 use denote.Triple.Statement.{Contract, Triple}
 use denote.Triple.Table.{entered, cited}
 use Rattle.protocol.proofs.Call.Laws as call-laws
-use Rattle.engine.proofs.Values.{a-call, call-typed}
+use Rattle.ruling.proofs.Values.{a-call, call-typed}
 use Rattle.engine.proofs.act as callee
 use Rattle.engine.proofs.act.Symbol as callee-def
 use Rattle.engine.proofs.act.Symbol.{name as #engine·act}

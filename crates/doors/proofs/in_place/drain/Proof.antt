@@ -13,7 +13,7 @@ use types.Kit.{Given}
 use denote.Triple.Spec.{Meets, tripleOf}
 use denote.Triple.Statement.{Contract, Triple}
 use denote.Triple.Table.{entered, cited}
-use Rattle.access.proofs.Data.{a-number}
+use Rattle.stores.proofs.Data.{a-number}
 use Rattle.engine.proofs.drain_in_place as callee
 use Rattle.engine.proofs.drain_in_place.Symbol as callee-def
 use Rattle.engine.proofs.drain_in_place.Symbol.{name as #engine·drain-in-place}

@@ -1,7 +1,6 @@
 -- `doors::random::messages` is safe and ends: the place stays within the array. Assumes nothing.
 use borrow.Author.Needs.{needs}
 use Prim.Native.Nat.{_-_, _≤_}
-use native.Mathlib.Omega.{arith}
 use Rattle.doors.proofs.random.messages.Statement.{statement}
 use Rattle.doors.proofs.random.messages.Tie as tie
 

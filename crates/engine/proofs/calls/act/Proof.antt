@@ -14,7 +14,7 @@ use denote.Triple.Spec.{Meets, tripleOf}
 use denote.Triple.Statement.{Contract, Triple}
 use denote.Triple.Table.{entered, cited}
 use Rattle.protocol.proofs.Call.Laws as call-laws
-use Rattle.access.proofs.Frame.{framed}
+use Rattle.stores.proofs.Frame.{framed}
 use Rattle.engine.specs.Outcomes.{applyOf}
 use Rattle.ruling.proofs.Values.{a-call, a-report, call-typed}
 use Rattle.engine.proofs.TaskLaws.{Reports, Admits, call-admitted}

@@ -15,8 +15,8 @@ use sound.WpLaws.{WpFn-mono}
 use denote.Triple.Spec.{Meets, tripleOf}
 use denote.Triple.Statement.{Contract, Triple}
 use denote.Triple.Table.{entered, cited}
-use Rattle.access.proofs.Data.{a-number}
-use Rattle.access.proofs.Frame.{framed}
+use Rattle.stores.proofs.Data.{a-number}
+use Rattle.stores.proofs.Frame.{framed}
 use Rattle.engine.specs.Outcomes.{drainOf}
 use Rattle.ruling.proofs.Values.{a-report}
 use Rattle.engine.proofs.TaskLaws.{Reports, Admits, drain-admitted}

@@ -34,13 +34,13 @@ use Rattle.network.proofs.Lengths.{lengths}
 use Rattle.access.specs.declared.Change.{Change}
 use Rattle.access.specs.Changes.{written, committed}
 use Rattle.access.proofs.Change.Laws as change-laws
-use Rattle.access.proofs.Data.{no-value, word}
-use Rattle.access.proofs.Locals.{var, sets, lands-in}
-use Rattle.access.proofs.Ending.{frees-all}
-use Rattle.access.proofs.Frame.{Held, Gives, gives, framed}
-use Rattle.access.proofs.Places.{a-change, Known, known, lies, change-typed}
-use Rattle.access.proofs.Calling.{calls-plain}
-use Rattle.access.proofs.Lending.{Lends, lends, calls-lent, calls-giving}
+use Rattle.stores.proofs.Data.{no-value, word}
+use Rattle.stores.proofs.Locals.{var, sets, lands-in}
+use Rattle.stores.proofs.Ending.{frees-all}
+use Rattle.stores.proofs.Frame.{Held, Gives, gives, framed}
+use Rattle.stores.proofs.Places.{a-change, Known, known, lies, change-typed}
+use Rattle.stores.proofs.Calling.{calls-plain}
+use Rattle.stores.proofs.Lending.{Lends, lends, calls-lent, calls-giving}
 use Rattle.decision.specs.declared.Report.{Report}
 use Rattle.decision.specs.Decisions.{decided}
 use Rattle.ruling.specs.Rulings.{decisionOn}
@@ -52,10 +52,10 @@ use Rattle.ruling.proofs.decide_in_place as decide
 use Rattle.ruling.proofs.decide_in_place.Symbol as decide-def
 use Rattle.ruling.proofs.decide_in_place.Symbol.{name as #ruling·decide-in-place}
 use Rattle.ruling.proofs.decide_in_place.Met as decide-met
-use Rattle.access.proofs.commit as commit
-use Rattle.access.proofs.commit.Symbol as commit-def
-use Rattle.access.proofs.commit.Symbol.{name as #access·commit}
-use Rattle.access.proofs.commit.Met as commit-met
+use Rattle.stores.proofs.commit as commit
+use Rattle.stores.proofs.commit.Symbol as commit-def
+use Rattle.stores.proofs.commit.Symbol.{name as #stores·commit}
+use Rattle.stores.proofs.commit.Met as commit-met
 use Rattle.engine.proofs.formed.change_in as change-in
 use Rattle.engine.proofs.formed.change_in.Symbol as change-in-def
 use Rattle.engine.proofs.formed.change_in.Symbol.{name as #engine·formed·change-in}
@@ -98,7 +98,7 @@ module _ {M : Type 1} (𝓤 : URA M) (H : Heap 𝓤) (A : Atoms 𝓤) (W : Given
 module _ {M : Type 1} (𝓤 : URA M) (H : Heap 𝓤) (A : Atoms 𝓤) (W : Given 𝓤 H A) (at-mem : Memory → SProp 𝓤) (run : Routine → Fun 𝓤) (𝓣 : Tables 𝓤 H)
     (known-decide : Triple 𝓤 (𝓣 .C #ruling·decide-in-place) (Decide 𝓤 H A at-mem run))
     (known-change : Triple 𝓤 (𝓣 .C #engine·formed·change-in) (ChangeIn 𝓤 H A at-mem run))
-    (known-commit : Triple 𝓤 (𝓣 .C #access·commit) (Commit 𝓤 H A at-mem run))
+    (known-commit : Triple 𝓤 (𝓣 .C #stores·commit) (Commit 𝓤 H A at-mem run))
     (known-report : Triple 𝓤 (𝓣 .C #engine·formed·report-in) (ReportIn 𝓤 H A at-mem run))
     (κ : Lft) (q : Share) (b o : ℕ) (γ : GName) (n : Network) (c : Call) where
   abbrev Ends : Report → Network → Type 0
@@ -144,7 +144,7 @@ module _ {M : Type 1} (𝓤 : URA M) (H : Heap 𝓤) (A : Atoms 𝓤) (W : Given
 module _ {M : Type 1} (𝓤 : URA M) (H : Heap 𝓤) (A : Atoms 𝓤) (W : Given 𝓤 H A) (at-mem : Memory → SProp 𝓤) (run : Routine → Fun 𝓤) (𝓣 : Tables 𝓤 H)
     (known-decide : Triple 𝓤 (𝓣 .C #ruling·decide-in-place) (Decide 𝓤 H A at-mem run))
     (known-change : Triple 𝓤 (𝓣 .C #engine·formed·change-in) (ChangeIn 𝓤 H A at-mem run))
-    (known-commit : Triple 𝓤 (𝓣 .C #access·commit) (Commit 𝓤 H A at-mem run))
+    (known-commit : Triple 𝓤 (𝓣 .C #stores·commit) (Commit 𝓤 H A at-mem run))
     (known-report : Triple 𝓤 (𝓣 .C #engine·formed·report-in) (ReportIn 𝓤 H A at-mem run)) where
   meets : Meets 𝓤 H A this.signature (WpFn 𝓤 H (𝓣 .C) (𝓣 .Λ) code.function) (this.spec 𝓤 H A at-mem run)
   meets = framed 𝓤 H A W (a-call ∷ []) a-report (this.clauses 𝓤 H A at-mem run) (λ κs n a. wellFormed n ≡ true) (λ κs n a r m. reported m r ≡ counted (applyOf n (a .0)))
@@ -159,5 +159,5 @@ act-spec 𝓤 H 𝓜 𝓖 𝓡 =
     (meets 𝓤 H (𝓖 .A) (givenOf 𝓤 H 𝓜 𝓖) (𝓜 .mem) (𝓡 .run) (tablesOf 𝓤 H 𝓜 (tables 𝓤 H 𝓜 𝓡 code.env))
     (cited 𝓤 H (Decide 𝓤 H (𝓖 .A) (𝓜 .mem) (𝓡 .run)) 𝓜 𝓡 code.env #ruling·decide-in-place decide-def.routine code.calls-ruling·decide-in-place (decide-met.met 𝓤 H 𝓜 𝓖 𝓡))
     (cited 𝓤 H (ChangeIn 𝓤 H (𝓖 .A) (𝓜 .mem) (𝓡 .run)) 𝓜 𝓡 code.env #engine·formed·change-in change-in-def.routine code.calls-engine·formed·change-in (change-in-met.met 𝓤 H 𝓜 𝓖 𝓡))
-    (cited 𝓤 H (Commit 𝓤 H (𝓖 .A) (𝓜 .mem) (𝓡 .run)) 𝓜 𝓡 code.env #access·commit commit-def.routine code.calls-access·commit (commit-met.met 𝓤 H 𝓜 𝓖 𝓡))
+    (cited 𝓤 H (Commit 𝓤 H (𝓖 .A) (𝓜 .mem) (𝓡 .run)) 𝓜 𝓡 code.env #stores·commit commit-def.routine code.calls-stores·commit (commit-met.met 𝓤 H 𝓜 𝓖 𝓡))
     (cited 𝓤 H (ReportIn 𝓤 H (𝓖 .A) (𝓜 .mem) (𝓡 .run)) 𝓜 𝓡 code.env #engine·formed·report-in report-in-def.routine code.calls-engine·formed·report-in (report-in-met.met 𝓤 H 𝓜 𝓖 𝓡)))

@@ -39,16 +39,16 @@ use Rattle.network.specs.Arrays.{live, wellFormed}
 use Rattle.network.proofs.Network as net
 use Rattle.network.proofs.Lengths.{lengths}
 use Rattle.network.proofs.Walking.{by-cases}
-use Rattle.access.proofs.Locals.{var, sets, lands-in}
-use Rattle.access.proofs.Straight.{branch-to}
-use Rattle.access.proofs.Inside.{look-by}
-use Rattle.access.proofs.Data.{a-byte, word}
-use Rattle.access.proofs.Ending.{frees-all}
-use Rattle.access.proofs.Frame.{Held, Gives, gives, framed}
-use Rattle.access.proofs.Places.{Known, known, lies, network-typed, whole-shows, waiting-shows}
-use Rattle.access.proofs.Reading.{a-network}
-use Rattle.access.proofs.Calling.{calls-plain}
-use Rattle.access.proofs.Lending.{Lends, lends, calls-giving}
+use Rattle.stores.proofs.Locals.{var, sets, lands-in}
+use Rattle.stores.proofs.Straight.{branch-to}
+use Rattle.stores.proofs.Inside.{look-by}
+use Rattle.stores.proofs.Data.{a-byte, word}
+use Rattle.stores.proofs.Ending.{frees-all}
+use Rattle.stores.proofs.Frame.{Held, Gives, gives, framed}
+use Rattle.stores.proofs.Places.{Known, known, lies, network-typed, whole-shows, waiting-shows}
+use Rattle.stores.proofs.Reading.{a-network}
+use Rattle.stores.proofs.Calling.{calls-plain}
+use Rattle.stores.proofs.Lending.{Lends, lends, calls-giving}
 use Rattle.decision.specs.declared.Report.{Report}
 use Rattle.engine.specs.Outcomes.{reported, counted, applyOf}
 use Rattle.engine.specs.Computed.{placeOf, nextDelivery}

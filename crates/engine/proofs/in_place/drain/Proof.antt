@@ -34,14 +34,14 @@ use Rattle.network.specs.Arrays.{wellFormed}
 use Rattle.network.proofs.Network as net
 use Rattle.network.proofs.Lengths.{lengths}
 use Rattle.network.proofs.Walking.{by-cases}
-use Rattle.access.proofs.Locals.{var, sets, lands-in, lands-again}
-use Rattle.access.proofs.Straight.{loops-on, turns-on, leaves-while}
-use Rattle.access.proofs.Inside.{look-by}
-use Rattle.access.proofs.Data.{a-byte, a-number, a-flag, word}
-use Rattle.access.proofs.Frame.{Held, Gives, gives, framed}
-use Rattle.access.proofs.Places.{Known, known, lies, waiting-shows}
-use Rattle.access.proofs.Calling.{calls-plain}
-use Rattle.access.proofs.Lending.{Lends, lends, calls-giving}
+use Rattle.stores.proofs.Locals.{var, sets, lands-in, lands-again}
+use Rattle.stores.proofs.Straight.{loops-on, turns-on, leaves-while}
+use Rattle.stores.proofs.Inside.{look-by}
+use Rattle.stores.proofs.Data.{a-byte, a-number, a-flag, word}
+use Rattle.stores.proofs.Frame.{Held, Gives, gives, framed}
+use Rattle.stores.proofs.Places.{Known, known, lies, waiting-shows}
+use Rattle.stores.proofs.Calling.{calls-plain}
+use Rattle.stores.proofs.Lending.{Lends, lends, calls-giving}
 use Rattle.decision.specs.declared.Report.{Report}
 use Rattle.engine.specs.declared.formed.Tally.{Tally}
 use Rattle.engine.specs.Outcomes.{reported, counted, drainOf}

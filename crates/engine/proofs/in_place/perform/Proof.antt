@@ -38,15 +38,15 @@ use Rattle.network.specs.declared.Network.{Network}
 use Rattle.network.specs.Arrays.{wellFormed}
 use Rattle.network.proofs.Network as net
 use Rattle.network.proofs.Lengths.{lengths}
-use Rattle.access.proofs.Locals.{var, sets, lands-in}
-use Rattle.access.proofs.Straight.{switch-to}
-use Rattle.access.proofs.Inside.{look-by}
-use Rattle.access.proofs.Data.{a-number, a-byte, word}
-use Rattle.access.proofs.Ending.{frees-all}
-use Rattle.access.proofs.Frame.{Held, Gives, gives, framed}
-use Rattle.access.proofs.Places.{Known, known, lies, network-typed, whole-shows}
-use Rattle.access.proofs.Calling.{calls-plain}
-use Rattle.access.proofs.Lending.{Lends, lends, calls-giving}
+use Rattle.stores.proofs.Locals.{var, sets, lands-in}
+use Rattle.stores.proofs.Straight.{switch-to}
+use Rattle.stores.proofs.Inside.{look-by}
+use Rattle.stores.proofs.Data.{a-number, a-byte, word}
+use Rattle.stores.proofs.Ending.{frees-all}
+use Rattle.stores.proofs.Frame.{Held, Gives, gives, framed}
+use Rattle.stores.proofs.Places.{Known, known, lies, network-typed, whole-shows}
+use Rattle.stores.proofs.Calling.{calls-plain}
+use Rattle.stores.proofs.Lending.{Lends, lends, calls-giving}
 use Rattle.decision.specs.declared.Report.{Report}
 use Rattle.decision.proofs.Report as report
 use Rattle.decision.proofs.Report.Laws as report-laws
@@ -56,9 +56,9 @@ use Rattle.engine.specs.Outcomes.{applyOf, drainOf}
 use Rattle.engine.specs.Computed.{doneOn, Allowed}
 use Rattle.task.proofs.Task as task
 use Rattle.task.proofs.Task.Laws as task-laws
-use Rattle.access.proofs.Reading.{a-network}
+use Rattle.stores.proofs.Reading.{a-network}
 use Rattle.ruling.proofs.Values.{IsOf, a-call, a-report, call-typed, report-typed}
-use Rattle.access.proofs.Variants.{tag-of, field-of}
+use Rattle.stores.proofs.Variants.{tag-of, field-of}
 use Rattle.engine.proofs.TaskValues.{a-refusal, a-serial, an-answer, a-task, refusal-typed, serial-typed, answer-typed, task-typed, by-task}
 use Rattle.members.specs.Members.{ownerAsked}
 use Rattle.engine.proofs.TaskLaws.{Reports, told-so, owner-told}

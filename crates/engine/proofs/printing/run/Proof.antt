@@ -54,7 +54,7 @@ use Rattle.network.specs.Arrays.{empty as emptyNetwork}
 use Rattle.network.proofs.Lengths.{lengths}
 use Rattle.network.proofs.Walking.{by-cases, seen, had, returned, is-val, at-val, typed}
 use Rattle.printout.specs.Lines.{heading, lastLine}
-use Rattle.access.proofs.Lending.{Loan}
+use Rattle.stores.proofs.Lending.{Loan}
 use Rattle.engine.specs.declared.printing.Kept.{Kept}
 use Rattle.engine.specs.declared.printing.Progress.{Progress}
 use Rattle.course.specs.Run.{after, closed, sizeLimit}

@@ -50,10 +50,10 @@ use Rattle.network.proofs.Network as N
 use Rattle.network.proofs.Network.Laws as N′
 use Rattle.network.proofs.Lengths.{Lengths, lengths}
 use Rattle.network.proofs.Walking.{seen, had, returned, is-val, at-val, typed}
-use Rattle.access.proofs.Data.{word}
-use Rattle.access.proofs.Locals.{var, sets, lands-in}
-use Rattle.access.proofs.Places.{Known, known}
-use Rattle.access.proofs.Lending.{Lends, lends, calls-giving}
+use Rattle.stores.proofs.Data.{word}
+use Rattle.stores.proofs.Locals.{var, sets, lands-in}
+use Rattle.stores.proofs.Places.{Known, known}
+use Rattle.stores.proofs.Lending.{Lends, lends, calls-giving}
 use Rattle.decision.specs.declared.Report.{Report}
 use Rattle.decision.proofs.Report as Report
 use Rattle.decision.proofs.Report.Laws as Report′

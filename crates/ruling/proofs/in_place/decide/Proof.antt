@@ -41,42 +41,42 @@ use Rattle.access.proofs.Spots.Laws as spots-laws
 use Rattle.access.proofs.Sight.Laws as sight-laws
 use Rattle.access.proofs.Arrival.Laws as arrival-laws
 use Rattle.access.proofs.Found.Laws as found-laws
-use Rattle.access.proofs.Data.{a-byte, word}
-use Rattle.access.proofs.Locals.{var, sets, lands-in}
-use Rattle.access.proofs.Straight.{switch-to}
-use Rattle.access.proofs.Ending.{frees-all}
-use Rattle.access.proofs.Frame.{Held, Gives, gives, framed}
-use Rattle.access.proofs.Places.{lies}
-use Rattle.access.proofs.Reading.{some-spots, a-sight, an-arrival, a-find, an-order}
-use Rattle.access.proofs.Calling.{calls-plain}
-use Rattle.access.proofs.Lending.{Lends, lends, calls-giving}
+use Rattle.stores.proofs.Data.{a-byte, word}
+use Rattle.stores.proofs.Locals.{var, sets, lands-in}
+use Rattle.stores.proofs.Straight.{switch-to}
+use Rattle.stores.proofs.Ending.{frees-all}
+use Rattle.stores.proofs.Frame.{Held, Gives, gives, framed}
+use Rattle.stores.proofs.Places.{lies}
+use Rattle.stores.proofs.Reading.{some-spots, a-sight, an-arrival, a-find, an-order}
+use Rattle.stores.proofs.Calling.{calls-plain}
+use Rattle.stores.proofs.Lending.{Lends, lends, calls-giving}
 use Rattle.decision.specs.declared.Decision.{Decision}
 use Rattle.decision.specs.Decisions.{decided, spotsOf, orderDecision, deliveryDecision}
 use Rattle.ruling.specs.Rulings.{decisionOn}
 use Rattle.decision.proofs.Decision.Laws as decision-laws
-use Rattle.access.proofs.Variants.{tag-of, field-of}
+use Rattle.stores.proofs.Variants.{tag-of, field-of}
 use Rattle.ruling.proofs.RulingLaws.{order-decided, delivery-decided}
 use Rattle.ruling.proofs.Values.{a-call, a-decision, IsOf, order-typed, call-typed, spots-typed, sight-typed, arrival-typed, found-typed, decision-typed, by-call}
 use Rattle.decision.proofs.spots as spots
 use Rattle.decision.proofs.spots.Symbol as spots-def
 use Rattle.decision.proofs.spots.Symbol.{name as #decision·spots}
 use Rattle.decision.proofs.spots.Met as spots-met
-use Rattle.access.proofs.look as look
-use Rattle.access.proofs.look.Symbol as look-def
-use Rattle.access.proofs.look.Symbol.{name as #access·look}
-use Rattle.access.proofs.look.Met as look-met
-use Rattle.access.proofs.find as find
-use Rattle.access.proofs.find.Symbol as find-def
-use Rattle.access.proofs.find.Symbol.{name as #access·find}
-use Rattle.access.proofs.find.Met as find-met
+use Rattle.stores.proofs.look as look
+use Rattle.stores.proofs.look.Symbol as look-def
+use Rattle.stores.proofs.look.Symbol.{name as #stores·look}
+use Rattle.stores.proofs.look.Met as look-met
+use Rattle.stores.proofs.find as find
+use Rattle.stores.proofs.find.Symbol as find-def
+use Rattle.stores.proofs.find.Symbol.{name as #stores·find}
+use Rattle.stores.proofs.find.Met as find-met
 use Rattle.decision.proofs.decide_order as decide-order
 use Rattle.decision.proofs.decide_order.Symbol as decide-order-def
 use Rattle.decision.proofs.decide_order.Symbol.{name as #decision·decide-order}
 use Rattle.decision.proofs.decide_order.Met as decide-order-met
-use Rattle.access.proofs.meet as meet
-use Rattle.access.proofs.meet.Symbol as meet-def
-use Rattle.access.proofs.meet.Symbol.{name as #access·meet}
-use Rattle.access.proofs.meet.Met as meet-met
+use Rattle.stores.proofs.meet as meet
+use Rattle.stores.proofs.meet.Symbol as meet-def
+use Rattle.stores.proofs.meet.Symbol.{name as #stores·meet}
+use Rattle.stores.proofs.meet.Met as meet-met
 use Rattle.decision.proofs.decide_delivery as decide-delivery
 use Rattle.decision.proofs.decide_delivery.Symbol as decide-delivery-def
 use Rattle.decision.proofs.decide_delivery.Symbol.{name as #decision·decide-delivery}
@@ -125,10 +125,10 @@ module _ {M : Type 1} (𝓤 : URA M) (H : Heap 𝓤) (A : Atoms 𝓤) (W : Given
 -- ---- the walk
 module _ {M : Type 1} (𝓤 : URA M) (H : Heap 𝓤) (A : Atoms 𝓤) (W : Given 𝓤 H A) (at-mem : Memory → SProp 𝓤) (run : Routine → Fun 𝓤) (𝓣 : Tables 𝓤 H)
     (known-spots : Triple 𝓤 (𝓣 .C #decision·spots) (Spots-of 𝓤 H A at-mem run))
-    (known-look : Triple 𝓤 (𝓣 .C #access·look) (Look 𝓤 H A at-mem run))
-    (known-find : Triple 𝓤 (𝓣 .C #access·find) (Find 𝓤 H A at-mem run))
+    (known-look : Triple 𝓤 (𝓣 .C #stores·look) (Look 𝓤 H A at-mem run))
+    (known-find : Triple 𝓤 (𝓣 .C #stores·find) (Find 𝓤 H A at-mem run))
     (known-order : Triple 𝓤 (𝓣 .C #decision·decide-order) (DecideOrder 𝓤 H A at-mem run))
-    (known-meet : Triple 𝓤 (𝓣 .C #access·meet) (Meet 𝓤 H A at-mem run))
+    (known-meet : Triple 𝓤 (𝓣 .C #stores·meet) (Meet 𝓤 H A at-mem run))
     (known-delivery : Triple 𝓤 (𝓣 .C #decision·decide-delivery) (DecideDelivery 𝓤 H A at-mem run))
     (κ : Lft) (q : Share) (b o : ℕ) (γ : GName) (n : Network) (c : Call) where
   abbrev Ends : Decision → Network → Type 0
@@ -201,10 +201,10 @@ module _ {M : Type 1} (𝓤 : URA M) (H : Heap 𝓤) (A : Atoms 𝓤) (W : Given
 
 module _ {M : Type 1} (𝓤 : URA M) (H : Heap 𝓤) (A : Atoms 𝓤) (W : Given 𝓤 H A) (at-mem : Memory → SProp 𝓤) (run : Routine → Fun 𝓤) (𝓣 : Tables 𝓤 H)
     (known-spots : Triple 𝓤 (𝓣 .C #decision·spots) (Spots-of 𝓤 H A at-mem run))
-    (known-look : Triple 𝓤 (𝓣 .C #access·look) (Look 𝓤 H A at-mem run))
-    (known-find : Triple 𝓤 (𝓣 .C #access·find) (Find 𝓤 H A at-mem run))
+    (known-look : Triple 𝓤 (𝓣 .C #stores·look) (Look 𝓤 H A at-mem run))
+    (known-find : Triple 𝓤 (𝓣 .C #stores·find) (Find 𝓤 H A at-mem run))
     (known-order : Triple 𝓤 (𝓣 .C #decision·decide-order) (DecideOrder 𝓤 H A at-mem run))
-    (known-meet : Triple 𝓤 (𝓣 .C #access·meet) (Meet 𝓤 H A at-mem run))
+    (known-meet : Triple 𝓤 (𝓣 .C #stores·meet) (Meet 𝓤 H A at-mem run))
     (known-delivery : Triple 𝓤 (𝓣 .C #decision·decide-delivery) (DecideDelivery 𝓤 H A at-mem run)) where
   meets : Meets 𝓤 H A this.signature (WpFn 𝓤 H (𝓣 .C) (𝓣 .Λ) code.function) (this.spec 𝓤 H A at-mem run)
   meets = framed 𝓤 H A W (a-call ∷ []) a-decision (this.clauses 𝓤 H A at-mem run) (λ κs n a. Unit {0}) (λ κs n a r m. (decided r ≡ decisionOn n (a .0)) × (m ≡ n))
@@ -218,9 +218,9 @@ decide-spec 𝓤 H 𝓜 𝓖 𝓡 =
     (tables 𝓤 H 𝓜 𝓡 code.env .C) (tables 𝓤 H 𝓜 𝓡 code.env .Λ) #ruling·in-place·decide code.function (code.unfolded 𝓤 H 𝓜 𝓡)
     (meets 𝓤 H (𝓖 .A) (givenOf 𝓤 H 𝓜 𝓖) (𝓜 .mem) (𝓡 .run) (tablesOf 𝓤 H 𝓜 (tables 𝓤 H 𝓜 𝓡 code.env))
     (cited 𝓤 H (Spots-of 𝓤 H (𝓖 .A) (𝓜 .mem) (𝓡 .run)) 𝓜 𝓡 code.env #decision·spots spots-def.routine code.calls-decision·spots (spots-met.met 𝓤 H 𝓜 𝓖 𝓡))
-    (cited 𝓤 H (Look 𝓤 H (𝓖 .A) (𝓜 .mem) (𝓡 .run)) 𝓜 𝓡 code.env #access·look look-def.routine code.calls-access·look (look-met.met 𝓤 H 𝓜 𝓖 𝓡))
-    (cited 𝓤 H (Find 𝓤 H (𝓖 .A) (𝓜 .mem) (𝓡 .run)) 𝓜 𝓡 code.env #access·find find-def.routine code.calls-access·find (find-met.met 𝓤 H 𝓜 𝓖 𝓡))
+    (cited 𝓤 H (Look 𝓤 H (𝓖 .A) (𝓜 .mem) (𝓡 .run)) 𝓜 𝓡 code.env #stores·look look-def.routine code.calls-stores·look (look-met.met 𝓤 H 𝓜 𝓖 𝓡))
+    (cited 𝓤 H (Find 𝓤 H (𝓖 .A) (𝓜 .mem) (𝓡 .run)) 𝓜 𝓡 code.env #stores·find find-def.routine code.calls-stores·find (find-met.met 𝓤 H 𝓜 𝓖 𝓡))
     (cited 𝓤 H (DecideOrder 𝓤 H (𝓖 .A) (𝓜 .mem) (𝓡 .run)) 𝓜 𝓡 code.env #decision·decide-order decide-order-def.routine code.calls-decision·decide-order (decide-order-met.met 𝓤 H 𝓜 𝓖 𝓡))
-    (cited 𝓤 H (Meet 𝓤 H (𝓖 .A) (𝓜 .mem) (𝓡 .run)) 𝓜 𝓡 code.env #access·meet meet-def.routine code.calls-access·meet (meet-met.met 𝓤 H 𝓜 𝓖 𝓡))
+    (cited 𝓤 H (Meet 𝓤 H (𝓖 .A) (𝓜 .mem) (𝓡 .run)) 𝓜 𝓡 code.env #stores·meet meet-def.routine code.calls-stores·meet (meet-met.met 𝓤 H 𝓜 𝓖 𝓡))
     (cited 𝓤 H (DecideDelivery 𝓤 H (𝓖 .A) (𝓜 .mem) (𝓡 .run)) 𝓜 𝓡 code.env #decision·decide-delivery decide-delivery-def.routine code.calls-decision·decide-delivery
     (decide-delivery-met.met 𝓤 H 𝓜 𝓖 𝓡)))

@@ -1,0 +1,12 @@
+pub mod Inside
+pub mod Straight
+pub mod Locals
+pub mod Ending
+pub mod Variants
+pub mod Data
+pub mod Frame
+pub mod Places
+pub mod Calling
+pub mod Lending
+pub mod Reading
+pub mod Searching
