@@ -1,6 +1,6 @@
-// How the arrays of a network are read and written, by value and where they lie. No rule stands here: what a call's rules look at is read out
-// (`Sight`, `Found`), and what they decide is carried out (`Change`). Each public function takes any network and any numbers; by value and behind
-// a reference they have the same definitions.
+// How the arrays of a network are read and written, by value. No rule stands here: what a call's rules look at is read out (`Sight`, `Found`), and
+// what they decide is carried out (`Change`). Each public function takes any network and any numbers. The crate `stores` does the same where a
+// network lies, by the same definitions.
 use node::Node;
 use parts::Message;
 use parts::Posts;

@@ -1,5 +1,5 @@
-// What a call on any network comes to: what its rules look at is read out of the arrays (`access`), and the decision is made from that
-// (`decision`). By value and in place it is the same decision, and nothing is changed. That it is what paper 01's rules say of a well-formed
+// What a call on any network comes to: what its rules look at is read out of the arrays (`access`, and in place `stores`), and the
+// decision is made from that (`decision`). By value and in place it is the same decision, and nothing is changed. That it is what paper 01's rules say of a well-formed
 // network is proved in the crate `engine`.
 ghost use mathlib.Core.Path.{_≡_};
 ghost use Rattle.decision.specs.Decisions.{decided};
