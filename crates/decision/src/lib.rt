@@ -29,12 +29,7 @@ use protocol::Order;
 use protocol::Reply;
 use refusal::Check;
 use refusal::Refusal;
-
-// What is told of a call, a question or a drain: its answer, and how many messages it posted.
-pub struct Report {
-    pub answer: Answer,
-    pub posted: u32,
-}
+use report::Report;
 
 // What a call comes to: the change to be carried out, which is none where it is refused, and what is told.
 pub struct Decision {

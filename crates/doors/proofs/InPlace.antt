@@ -43,7 +43,7 @@ use Rattle.stores.proofs.Places.{networkVal, NetworkIs, network-typed, lies}
 use Rattle.stores.proofs.Reading.{a-network}
 use Rattle.stores.proofs.Calling.{ends-plain}
 use Rattle.stores.proofs.Lending.{Lends, lends, calls-giving}
-use Rattle.decision.proofs.Report.Laws as report-laws
+use Rattle.report.proofs.Report.Laws as report-laws
 use Rattle.engine.specs.declared.Called.{Called}
 use Rattle.engine.proofs.Called as called
 use Rattle.engine.proofs.Called.Laws as called-laws

@@ -48,7 +48,7 @@ use Rattle.access.specs.Sights.{nodeIn, messageIn, sightOf, arrivalOf, least, k
 use Rattle.access.proofs.Shift.{length-without}
 use Rattle.access.proofs.Stores.{added-held, closed-held, stepped-held}
 use Rattle.decision.specs.declared.Decision.{Decision}
-use Rattle.decision.specs.declared.Report.{Report}
+use Rattle.report.specs.declared.Report.{Report}
 use Rattle.decision.specs.Decisions.{Decided, decided as decidedBy, spotsOf, turnedAway, adding, stepping, delivering, afterStep, roomTests, unless, declareTests, createTests, joinStep, leaveTests, receiveStep, deliverTests}
 use Rattle.ruling.specs.Rulings.{decisionOn}
 use Rattle.engine.specs.Outcomes.{counted, reported, inArrays, applyOf}

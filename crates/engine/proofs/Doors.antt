@@ -39,8 +39,8 @@ use Rattle.stores.proofs.Frame.{Held, Gives, gives}
 use Rattle.stores.proofs.Places.{Known, known, lies, network-typed, whole-shows}
 use Rattle.stores.proofs.Calling.{ends-plain, Plainly, calls-plain}
 use Rattle.stores.proofs.Lending.{Lends, lends, calls-giving}
-use Rattle.decision.proofs.Report as report
-use Rattle.decision.proofs.Report.Laws as report-laws
+use Rattle.report.proofs.Report as report
+use Rattle.report.proofs.Report.Laws as report-laws
 use Rattle.task.specs.declared.Task.{Task}
 use Rattle.engine.specs.Outcomes.{Applied, counted}
 use Rattle.engine.specs.Computed.{doneOn, Allowed}

@@ -36,7 +36,8 @@ use Rattle.engine.proofs.TaskLaws.{task-done}
 use Rattle.task.specs.declared.Task.{Task}
 use Rattle.task.specs.declared.Task.the-variants as task
 use Rattle.task.specs.declared.Asked.{Asked}
-use Rattle.engine.specs.Computed.{doneOn, Allowed, Asks}
+use Rattle.engine.specs.Computed.{doneOn, Allowed}
+use Rattle.task.specs.Tasks.{Asks}
 
 -- ---- what a step starts from and ends in, and how far that is; what the contract of a step asks, and what it ensures
 pub record State : Type 0 where

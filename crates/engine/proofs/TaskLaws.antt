@@ -32,7 +32,7 @@ use Rattle.members.specs.Members.{ownerAsked}
 use Rattle.members.proofs.QuestionLaws.{owner-live}
 use Rattle.script.specs.declared.Record.{Record}
 use Rattle.script.specs.declared.Record.the-variants as asks
-use Rattle.decision.specs.declared.Report.{Report}
+use Rattle.report.specs.declared.Report.{Report}
 use Rattle.engine.specs.Outcomes.{Applied, counted, reported, refused, inArrays, applyOf, drainOf}
 use Rattle.engine.specs.Answers.{ownerOf}
 use Rattle.course.specs.Performance.{fieldRules, valueOf, saying, performOf as performOnLists}

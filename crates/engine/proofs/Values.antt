@@ -10,9 +10,9 @@ use types.Kit.{Given}
 use Rattle.network.proofs.Walking.{typed}
 use Rattle.stores.proofs.Data.{Data, word, of-struct}
 use Rattle.ruling.proofs.Values.{IsOf}
-use Rattle.engine.specs.declared.formed.Tally.{Tally}
-use Rattle.engine.proofs.formed.Tally as tally
-use Rattle.engine.proofs.formed.Tally.Laws as tally-laws
+use Rattle.report.specs.declared.Tally.{Tally}
+use Rattle.report.proofs.Tally as tally
+use Rattle.report.proofs.Tally.Laws as tally-laws
 
 abbrev pub a-tally : Data
 a-tally = of-struct tally.the-type tally-laws.the-laws tally-laws.the-plain (λ x. tt) (λ x f. refl)

@@ -4,27 +4,16 @@ use Prim.Native.Nat.{ℕ}
 use mathlib.Core.Path.{_≡_}
 use mathlib.Core.Bool.{true}
 use mathlib.Core.Option.{Option, none, some}
-use Rattle.refusal.specs.declared.Refusal.{Refusal}
-use Rattle.refusal.specs.declared.Refusal.the-variants.{BadDigit, SerialTooLarge, CutShort}
 use Rattle.refusal.specs.Code.{reason}
-use Rattle.serial.specs.declared.Serial.{Serial}
-use Rattle.serial.specs.declared.Serial.the-variants as serial
-use Rattle.protocol.specs.declared.Order.the-variants.{Declare}
-use Rattle.protocol.specs.declared.Call.the-variants.{Order, Deliver}
+use Rattle.protocol.specs.declared.Call.the-variants.{Deliver}
 use Rattle.protocol.specs.Drain.{lowest}
 use Rattle.network.specs.declared.Network.{Network}
 use Rattle.network.specs.Arrays.{live, wellFormed}
 use Rattle.access.specs.Changes.{committed}
 use Rattle.decision.specs.Decisions.{Decided}
-use Rattle.script.specs.declared.Record.{Record}
 use Rattle.script.specs.declared.Record.the-variants as record′
-use Rattle.script.specs.declared.Reading.{Reading}
-use Rattle.script.specs.declared.Reading.the-variants as reading
-use Rattle.script.specs.Script.{Read, end, stop, next}
-use Rattle.task.specs.declared.Asked.{Asked}
 use Rattle.task.specs.declared.Task.{Task}
 use Rattle.task.specs.declared.Task.the-variants as task
-use Rattle.task.specs.Tasks.{taskOf}
 use Rattle.engine.specs.Outcomes.{Applied, refused, Counted, applyOf, drainOf}
 use Rattle.engine.specs.InArrays.{performOf}
 
@@ -52,9 +41,3 @@ Allowed n (task.Refuse r) = Unit {0}
 Allowed n (task.Call call) = wellFormed n ≡ true
 Allowed n (task.Owner start serial) = wellFormed n ≡ true
 Allowed n (task.Drain budget) = wellFormed n ≡ true
-
--- what a script's bytes at a cursor ask: at the end, where nobody asks, nothing is said of it
-abbrev pub Asks : ℕ → Read → Asked → Type 0
-Asks size end a = Unit {0}
-Asks size (stop q) a = (r : Refusal) × (a .task ≡ task.Refuse r) × (reason r ≡ q) × (a .after ≡ size)
-Asks size (next asked after) a = (a .task ≡ taskOf asked) × (a .after ≡ after)

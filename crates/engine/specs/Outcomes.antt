@@ -15,7 +15,7 @@ use Rattle.protocol.specs.Drain.{drainOf as drainLists}
 use Rattle.network.specs.declared.Network.{Network}
 use Rattle.network.specs.Arrays.{live, wellFormed, held}
 use Rattle.engine.specs.declared.Called.{Called}
-use Rattle.decision.specs.declared.Report.{Report}
+use Rattle.report.specs.declared.Report.{Report}
 
 -- ---- the network left behind, the messages posted in their order, and an answer or the reason of a refusal
 pub record Applied : Type 0 where

@@ -8,10 +8,10 @@ ghost use Rattle.engine.specs.Outcomes.{called, reported, counted, apply
 use crate::Called;
 use crate::formed;
 use crate::in_place;
-use decision::Report;
 use network::Network;
 use protocol::Call;
 use refusal::Refusal;
+use report::Report;
 use task::Task;
 
 // Any call, on any network.

@@ -8,9 +8,9 @@ ghost use Rattle.engine.specs.Outcomes.{called, reported, counted, drain
 use crate::Called;
 use crate::formed;
 use crate::in_place;
-use decision::Report;
 use network::Network;
 use refusal::Refusal;
+use report::Report;
 use task::Task;
 
 // A drain of any network.

@@ -1,14 +1,11 @@
 // Calls and drains by value, past the test of the network.
 ghost use mathlib.Core.Path.{_≡_};
-ghost use mathlib.Core.Bool.{true, _&&_};
+ghost use mathlib.Core.Bool.{true};
 ghost use mathlib.Core.Option.{some};
-ghost use Prim.Native.Nat.{_+_, _<_};
-ghost use lib.Dec.{ltb};
+ghost use Prim.Native.Nat.{_<_};
 ghost use Rattle.refusal.specs.Code.{reason};
-ghost use Rattle.refusal.specs.Rules.{done};
 ghost use Rattle.protocol.specs.declared.Call.the-variants.{Deliver};
-ghost use Rattle.protocol.specs.declared.Reply.the-variants.{Ran};
-ghost use Rattle.protocol.specs.Answer.{answered, accepted};
+ghost use Rattle.protocol.specs.Answer.{accepted};
 ghost use Rattle.protocol.specs.Calls.{applyOf as applyToLists};
 ghost use Rattle.protocol.specs.Drain.{lowest};
 ghost use Rattle.network.specs.Arrays.{live, wellFormed};
@@ -16,13 +13,13 @@ ghost use Rattle.engine.specs.Outcomes.{called, counted, refused, applyO
 use crate::Called;
 use access::Change;
 use decision::Decision;
-use decision::Report;
 use network::Network;
 use network::QUEUE_LIMIT;
 use protocol::Answer;
 use protocol::Call;
-use protocol::Reply;
 use refusal::Refusal;
+use report::Report;
+use report::Tally;
 
 pub(crate) fn refuse(network: Network, refusal: Refusal) -> Called
     ensures { λ r. ⌜ called r ≡ counted (refused network (reason refusal)) ⌝ }
@@ -89,48 +86,6 @@ pub(crate) fn lowest(network: Network) -> u8
     0
 }
 
-// What a drain has done so far: the deliveries made, and the messages that they posted.
-pub(crate) struct Tally {
-    made: u16,
-    posted: u32,
-}
-
-pub(crate) fn no_tally() -> Tally
-    ensures { λ r. ⌜ r ≡ record { made = 0; posted = 0 } ⌝ }
-{
-    Tally { made: 0, posted: 0 }
-}
-
-// Whether a drain goes on, with so many messages waiting.
-pub(crate) fn goes_on(tally: Tally, budget: u16, waiting: u8) -> bool
-    ensures { λ r. ⌜ r ≡ (ltb (tally .made) budget && ltb 0 waiting) ⌝ }
-{
-    (tally.made < budget) & (0 < waiting)
-}
-
-// One delivery more.
-pub(crate) fn tallied(tally: Tally, report: Report) -> Tally
-    requires { ⌜ (tally .made < 65_535) × (tally .posted + report .posted < 4_294_967_296) ⌝ }
-    ensures { λ r. ⌜ r ≡ record { made = tally .made + 1; posted = tally .posted + report .posted } ⌝ }
-{
-    Tally {
-        made: tally.made + 1,
-        posted: tally.posted + report.posted,
-    }
-}
-
-pub(crate) fn ran(tally: Tally, left: u8) -> Report
-    ensures { λ r. ⌜ (answered (r .answer) ≡ done (Ran (tally .made) left)) × (r .posted ≡ tally .posted) ⌝ }
-{
-    Report {
-        answer: Answer::Done(Reply::Ran {
-            made: tally.made,
-            left,
-        }),
-        posted: tally.posted,
-    }
-}
-
 // Deliveries, each at the lowest place where one is not refused, until nothing waits or the budget is spent.
 pub(crate) fn drain(network: Network, budget: u16) -> Called
     requires { ⌜ wellFormed network ≡ true ⌝ }
@@ -138,16 +93,16 @@ pub(crate) fn drain(network: Network, budget: u16) -> Called
 {
     let mut n = network;
     let mut tally = Tally { made: 0, posted: 0 };
-    while goes_on(tally, budget, n.waiting) {
+    while report::goes_on(tally, budget, n.waiting) {
         let place = lowest(n);
         let called = apply(n, Call::Deliver(place));
         let next = called.network;
         let report = called.report;
         n = next;
-        tally = tallied(tally, report);
+        tally = report::tallied(tally, report);
     }
     Called {
         network: n,
-        report: ran(tally, n.waiting),
+        report: report::ran(tally, n.waiting),
     }
 }

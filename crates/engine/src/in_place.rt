@@ -7,12 +7,10 @@ ghost use Rattle.network.specs.Arrays.{wellFormed};
 ghost use Rattle.engine.specs.Outcomes.{reported, counted, applyOf, drainOf};
 ghost use Rattle.engine.specs.Computed.{nextDelivery, doneOn, Allowed};
 use crate::formed;
-use crate::formed::Tally;
-use crate::tasks;
-use decision::Report;
 use network::Network;
 use network::QUEUE_LIMIT;
 use protocol::Call;
+use report::Report;
 use task::Task;
 
 fn act(network: &mut Network, call: Call) -> Report
@@ -43,14 +41,14 @@ fn drain(network: &mut Network, budget: u16) -> Report
     requires { ⌜ wellFormed (now network) ≡ true ⌝ }
     ensures { λ r. ⌜ reported (now (network .exit)) r ≡ counted (drainOf (now (network .entry)) budget) ⌝ }
 {
-    let mut tally = formed::no_tally();
+    let mut tally = report::no_tally();
     let mut waiting = network.waiting;
-    while formed::goes_on(tally, budget, waiting) {
+    while report::goes_on(tally, budget, waiting) {
         let report = deliver(network);
-        tally = formed::tallied(tally, report);
+        tally = report::tallied(tally, report);
         waiting = network.waiting;
     }
-    formed::ran(tally, waiting)
+    report::ran(tally, waiting)
 }
 
 pub(crate) fn perform(network: &mut Network, task: Task) -> Report
@@ -58,11 +56,11 @@ pub(crate) fn perform(network: &mut Network, task: Task) -> Report
     ensures { λ r. ⌜ reported (now (network .exit)) r ≡ counted (doneOn (now (network .entry)) task) ⌝ }
 {
     match task {
-        Task::Refuse(refusal) => tasks::refuse(refusal),
+        Task::Refuse(refusal) => report::refused(refusal),
         Task::Call(call) => act(network, call),
         Task::Owner { start, serial } => {
             let answer = members::owner_of_record(*network, start, serial);
-            tasks::tell(answer)
+            report::told(answer)
         }
         Task::Drain(budget) => drain(network, budget),
     }

@@ -2,8 +2,8 @@
 // function takes any network: it tests the network first, and refuses 6 with the very network where it is not well formed. What is done past the
 // test is private to this crate, and asks that the network be well formed. Each contract is an equation with the rules of the crate `protocol`
 // on the lists that the network's arrays hold.
-use decision::Report;
 use network::Network;
+use report::Report;
 
 mod calls;
 mod drains;
@@ -11,7 +11,6 @@ mod formed;
 mod in_place;
 mod printing;
 mod questions;
-mod tasks;
 
 pub use calls::act;
 pub use calls::apply;

@@ -15,11 +15,10 @@ ghost use mathlib.Core.Bool.{true};
 ghost use mathlib.Core.List.{_++_};
 ghost use mathlib.Core.Path.{_≡_};
 use crate::in_place;
-use crate::tasks;
-use decision::Report;
 use network::Network;
 use protocol::Answer;
 use refusal::Refusal;
+use report::Report;
 
 // "A script is at most 65,536 bytes."
 pub const SIZE_LIMIT: usize = 65_536;
@@ -96,7 +95,7 @@ fn step(kept: &mut Kept, script: &[u8], text: &mut [u8; 1048576], p: Progress) -
         × (wellFormed (now (kept .exit) .network) ≡ true) × (r .used ≤ p .used + 40) ⌝ }
 {
     let at = p.at;
-    let asked = tasks::ask(script, at);
+    let asked = task::ask(script, at);
     let task = asked.task;
     let report = in_place::perform(&mut kept.network, task);
     let after = asked.after;

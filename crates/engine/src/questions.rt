@@ -4,7 +4,6 @@ ghost use Rattle.protocol.specs.Answer.{answered};
 ghost use Rattle.engine.specs.Answers.{insertedOf, ownerOf};
 use network::Network;
 use protocol::Answer;
-use protocol::Reply;
 use refusal::Refusal;
 
 // Who is inserted: one word, bit n for node n, and how many they are.
@@ -14,11 +13,7 @@ pub fn inserted(network: Network) -> Answer
     if !network.is_well_formed() {
         return Answer::Refused(Refusal::Malformed);
     }
-    let word = members::word(network);
-    Answer::Done(Reply::Inserted {
-        word,
-        size: u32::count_ones(word),
-    })
+    members::inserted(network)
 }
 
 // The owner of a serial from a start, in any network.

@@ -5,7 +5,6 @@ use mathlib.Core.Logic.{⊎-elim}
 use mathlib.Core.Bool.{true, false, cond}
 use Prim.Native.Nat.{ℕ, _≤_, _<_}
 use lib.ListN.{length}
-use lib.Count.{ones}
 use lib.Dec.{ltb}
 use borrow.Author.Tests.{ltb-true, ltb-false, lt-ltb, le-ltb}
 use Rattle.truth.proofs.TestLaws.{decided}
@@ -14,7 +13,6 @@ use Rattle.refusal.specs.Code.{plain}
 use Rattle.refusal.specs.Rules.{Coded, done, no as refusal}
 use Rattle.serial.specs.Serial.{inRange}
 use Rattle.protocol.specs.declared.Reply.{Reply}
-use Rattle.protocol.specs.declared.Reply.the-variants.{Inserted}
 use Rattle.protocol.specs.State.{declared, inserted}
 use Rattle.protocol.specs.Questions.{walked, insertedOf, ownerOf}
 use Rattle.network.specs.declared.Network.{Network}
@@ -22,11 +20,11 @@ use Rattle.network.specs.Arrays.{live, wellFormed}
 use Rattle.network.proofs.Lengths.{Lengths}
 use Rattle.network.proofs.ArrayLaws.{formed}
 use Rattle.network.proofs.LiveLaws.{nodes-length}
-use Rattle.members.specs.Members.{memberIn, wordOf, walkFrom, ownerIn}
+use Rattle.members.specs.Members.{memberIn, insertedIn, walkFrom, ownerIn}
 use Rattle.members.proofs.MemberLaws.{member-live, word-live, walk-live}
 
 module _ (n : Network) (l : Lengths n) (h : wellFormed n ≡ true) where
-  pub inserted-told : _≡_ {A = Coded Reply} (done (Inserted (wordOf n) (ones (wordOf n)))) (insertedOf (live n))
+  pub inserted-told : insertedIn n ≡ insertedOf (live n)
   unfolding insertedOf
   inserted-told = rw (formed n h .lists, word-live n l h, word-ones (length (live n .nodes)) (inserted (live n)))
 

@@ -2,11 +2,12 @@
 -- owns a serial. What this comes to on the lists of a well-formed network is proved in `proofs/`. Definitions only.
 use Prim.Native.Nat.{ℕ, zero, suc}
 use mathlib.Core.Bool.{Bool, cond}
+use lib.Count.{ones}
 use lib.Dec.{ltb}
 use lib.ListN.{take}
 use Rattle.truth.specs.Tests.{any, wordBelow}
 use Rattle.refusal.specs.Code.{plain}
-use Rattle.refusal.specs.Rules.{Coded, no}
+use Rattle.refusal.specs.Rules.{Coded, done, no}
 use Rattle.serial.specs.declared.Serial.{Serial}
 use Rattle.serial.specs.declared.Serial.the-variants.{Value, BadDigit, TooLarge}
 use Rattle.serial.specs.Serial.{inRange}
@@ -14,6 +15,7 @@ use Rattle.interval.specs.Interval.{within}
 use Rattle.parts.specs.declared.Link.{Link}
 use Rattle.parts.specs.declared.Link.the-variants.{Unlinked, To}
 use Rattle.protocol.specs.declared.Reply.{Reply}
+use Rattle.protocol.specs.declared.Reply.the-variants.{Inserted}
 use Rattle.node.specs.Shape.{capacity}
 use Rattle.protocol.specs.State.{queueLimit, isAckTo, isInserted}
 use Rattle.protocol.specs.Questions.{Walk, found, lost, walked}
@@ -29,6 +31,9 @@ memberIn n u = isInserted (nodeIn n u .status) (ackWaits n u)
 
 abbrev pub wordOf : Network → ℕ
 wordOf n = wordBelow (least (n .count) capacity) (memberIn n)
+
+abbrev pub insertedIn : Network → Coded Reply
+insertedIn n = done (Inserted (wordOf n) (ones (wordOf n)))
 
 -- ---- the walk to an owner: at node u, after some hops, by its right link; and with so many hops left to make
 abbrev pub walkAt : Network → ℕ → ℕ → ℕ → Link → (ℕ → Walk) → Walk

@@ -13,7 +13,7 @@ ghost use mathlib.Core.Bool.{cond};
 ghost use lib.Dec.{ltb};
 ghost use Rattle.refusal.specs.Code.{reason, plain};
 ghost use Rattle.refusal.specs.Rules.{no};
-ghost use Rattle.members.specs.Members.{memberIn, wordOf, walkFrom, ownerIn, ownerAsked};
+ghost use Rattle.members.specs.Members.{memberIn, wordOf, insertedIn, walkFrom, ownerIn, ownerAsked};
 use network::CAPACITY;
 use network::Network;
 use network::QUEUE_LIMIT;
@@ -72,7 +72,7 @@ fn is_member(network: Network, number: u8) -> bool
 }
 
 // One word, bit n for node n.
-pub fn word(network: Network) -> u32
+fn word(network: Network) -> u32
     ensures { λ r. ⌜ r ≡ wordOf network ⌝ }
 {
     let nodes = network.nodes;
@@ -90,6 +90,17 @@ pub fn word(network: Network) -> u32
         i += 1;
     }
     word
+}
+
+// Who is inserted: that word, and how many they are.
+pub fn inserted(network: Network) -> Answer
+    ensures { λ r. ⌜ answered r ≡ insertedIn network ⌝ }
+{
+    let word = word(network);
+    Answer::Done(Reply::Inserted {
+        word,
+        size: u32::count_ones(word),
+    })
 }
 
 // Along right links from a start, to the node whose interval holds the serial; each hop reads one node.

@@ -36,10 +36,10 @@ use Rattle.access.proofs.Found as found
 use Rattle.access.proofs.Found.Laws as found-laws
 use Rattle.stores.proofs.Data.{Data, word, of-struct, of-enum}
 use Rattle.stores.proofs.Reading.{some-spots, a-sight, an-arrival, a-find, an-order}
-use Rattle.decision.specs.declared.Report.{Report}
+use Rattle.report.specs.declared.Report.{Report}
 use Rattle.decision.specs.declared.Decision.{Decision}
-use Rattle.decision.proofs.Report as report
-use Rattle.decision.proofs.Report.Laws as report-laws
+use Rattle.report.proofs.Report as report
+use Rattle.report.proofs.Report.Laws as report-laws
 use Rattle.decision.proofs.Decision as decision
 use Rattle.decision.proofs.Decision.Laws as decision-laws
 

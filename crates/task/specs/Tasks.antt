@@ -1,7 +1,10 @@
 -- No rules stand here: it is how the code takes a record of a script, or what could not be read, as a task. What a task comes to on a network is
 -- said in the crate `engine`. Definitions only.
 use Prim.Native.Nat.{ℕ}
+use mathlib.Core.Path.{_≡_}
+use Rattle.refusal.specs.declared.Refusal.{Refusal}
 use Rattle.refusal.specs.declared.Refusal.the-variants.{BadDigit, SerialTooLarge, CutShort}
+use Rattle.refusal.specs.Code.{reason}
 use Rattle.serial.specs.declared.Serial.{Serial}
 use Rattle.serial.specs.declared.Serial.the-variants as serial
 use Rattle.protocol.specs.declared.Order.the-variants.{Declare}
@@ -10,6 +13,8 @@ use Rattle.script.specs.declared.Record.{Record}
 use Rattle.script.specs.declared.Record.the-variants as record′
 use Rattle.script.specs.declared.Reading.{Reading}
 use Rattle.script.specs.declared.Reading.the-variants as reading
+use Rattle.script.specs.Script.{Read, end, stop, next}
+use Rattle.task.specs.declared.Asked.{Asked}
 use Rattle.task.specs.declared.Task.{Task}
 use Rattle.task.specs.declared.Task.the-variants as task
 
@@ -35,3 +40,9 @@ abbrev pub cursorAfter : ℕ → Reading → ℕ
 cursorAfter size reading.End = size
 cursorAfter size (reading.Stopped r) = size
 cursorAfter size (reading.Next asked after) = after
+
+-- what a script's bytes at a cursor ask: at the end, where nobody asks, nothing is said of it
+abbrev pub Asks : ℕ → Read → Asked → Type 0
+Asks size end a = Unit {0}
+Asks size (stop q) a = (r : Refusal) × (a .task ≡ task.Refuse r) × (reason r ≡ q) × (a .after ≡ size)
+Asks size (next asked after) a = (a .task ≡ taskOf asked) × (a .after ≡ after)

@@ -1,7 +1,9 @@
 // A record of a script as a task: what a network is asked, or what is only told. A serial that is refused at its turn has become its refusal where
 // nothing comes before it, and what cannot be read is told too, so that who performs a task has four cases.
 ghost use mathlib.Core.Path.{_≡_};
-ghost use Rattle.task.specs.Tasks.{declaring, taskOf, taskRead, cursorAfter};
+ghost use lib.ListN.{length};
+ghost use Rattle.script.specs.Script.{readAt};
+ghost use Rattle.task.specs.Tasks.{declaring, taskOf, taskRead, cursorAfter, Asks};
 use protocol::Call;
 use protocol::Order;
 use refusal::Refusal;
@@ -44,7 +46,7 @@ fn task_of(asked: Record) -> Task
     }
 }
 
-pub fn asked_by(read: Reading, size: usize) -> Asked
+fn asked_by(read: Reading, size: usize) -> Asked
     ensures { λ r. ⌜ (r .task ≡ taskRead read) × (r .after ≡ cursorAfter size read) ⌝ }
 {
     match read {
@@ -61,4 +63,12 @@ pub fn asked_by(read: Reading, size: usize) -> Asked
             after,
         },
     }
+}
+
+// What is asked at a cursor of a script.
+pub fn ask(script: &[u8], at: usize) -> Asked
+    ensures { λ r. ⌜ Asks (length (now (script .entry))) (readAt (now (script .entry)) at) r ⌝ }
+{
+    let read = script::read(script, at);
+    asked_by(read, script.len())
 }

@@ -8,6 +8,7 @@ use lib.Dec.{ltb}
 use borrow.Author.Tests.{ltb-true}
 use Rattle.truth.proofs.Laws.{both}
 use Rattle.network.proofs.Lengths.{lengths}
+use Rattle.report.proofs.Exact.{exactly}
 use Rattle.engine.specs.Outcomes.{called}
 use Rattle.engine.proofs.DrainLaws.{Underway, begins, tally-fits, goes-on, stops}
 use Rattle.engine.proofs.formed.drain.Statement.{statement}
@@ -32,29 +33,26 @@ lowest-requires c κs =
 apply-requires : tie.Need-apply-requires Inv-loop μ-loop
 apply-requires c κs = c .before .before .before .loop .inv .well-formed
 
-tallied-requires : tie.Need-tallied-requires Inv-loop μ-loop
-tallied-requires c κs =
-    let made = c .before .before in
-    let turn = made .before in
-    let loop = turn .before .before .before in
-    tally-fits (loop .loop .inv) (turn .lowest .result) (called (made .apply .result)) (sym (turn .before .before .goes-on .ensures) ∙ turn .before .if1 .taken) (turn .lowest .ensures) (made .apply .ensures) (loop .before .fits .budget .fits)
-
 loop-again : tie.Need-loop-again Inv-loop μ-loop
 loop-again c =
     let made = c .before .before .before in
     let turn = made .before in
     let loop = turn .before .before .before in
-    rw (c .tallied .ensures)
-    (goes-on (loop .loop .inv) (turn .lowest .result) (called (made .apply .result)) (sym (turn .before .before .goes-on .ensures) ∙ turn .before .if1 .taken) (turn .lowest .ensures) (made .apply .ensures))
+    let goes = sym (turn .before .before .goes-on .ensures) ∙ turn .before .if1 .taken in
+    let fits = tally-fits (loop .loop .inv) (turn .lowest .result) (called (made .apply .result)) goes (turn .lowest .ensures) (made .apply .ensures) (loop .before .fits .budget .fits) in
+    rw (exactly (loop .loop .tally) (c .tallied .result) (made .apply .result .report .posted) fits (c .tallied .ensures))
+    (goes-on (loop .loop .inv) (turn .lowest .result) (called (made .apply .result)) goes (turn .lowest .ensures) (made .apply .ensures))
 
 loop-less : tie.Need-loop-less Inv-loop μ-loop
 loop-less c =
     let turn = c .before .before .before .before in
+    let step = c .before .before .before in
     let test = sym (turn .before .before .goes-on .ensures) ∙ turn .before .if1 .taken in
     let loop = turn .before .before .before in
     let made = loop .loop .tally .made in
     let budget = loop .before .args .budget in
-    rw (c .tallied .ensures) (omega (arith, ltb-true made budget (both (ltb made budget) (ltb 0 (loop .loop .n .waiting)) test .0)))
+    let fits = tally-fits (loop .loop .inv) (turn .lowest .result) (called (step .apply .result)) test (turn .lowest .ensures) (step .apply .ensures) (loop .before .fits .budget .fits) in
+    rw (exactly (loop .loop .tally) (c .tallied .result) (step .apply .result .report .posted) fits (c .tallied .ensures)) (omega (arith, ltb-true made budget (both (ltb made budget) (ltb 0 (loop .loop .n .waiting)) test .0)))
 
 returns : tie.Need-returns Inv-loop μ-loop
 returns c =
@@ -72,7 +70,7 @@ drain-spec =
     (λ c κs. search needs)
     lowest-requires
     apply-requires
-    tallied-requires
+    (λ c κs. search needs)
     loop-less
     loop-again
     (λ c κs. search needs)

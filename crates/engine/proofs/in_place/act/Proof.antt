@@ -41,7 +41,7 @@ use Rattle.stores.proofs.Frame.{Held, Gives, gives, framed}
 use Rattle.stores.proofs.Places.{a-change, Known, known, lies, change-typed}
 use Rattle.stores.proofs.Calling.{calls-plain}
 use Rattle.stores.proofs.Lending.{Lends, lends, calls-lent, calls-giving}
-use Rattle.decision.specs.declared.Report.{Report}
+use Rattle.report.specs.declared.Report.{Report}
 use Rattle.decision.specs.Decisions.{decided}
 use Rattle.ruling.specs.Rulings.{decisionOn}
 use Rattle.decision.proofs.Decision.Laws as decision-laws

@@ -49,7 +49,7 @@ use Rattle.stores.proofs.Places.{Known, known, lies, network-typed, whole-shows
 use Rattle.stores.proofs.Reading.{a-network}
 use Rattle.stores.proofs.Calling.{calls-plain}
 use Rattle.stores.proofs.Lending.{Lends, lends, calls-giving}
-use Rattle.decision.specs.declared.Report.{Report}
+use Rattle.report.specs.declared.Report.{Report}
 use Rattle.engine.specs.Outcomes.{reported, counted, applyOf}
 use Rattle.engine.specs.Computed.{placeOf, nextDelivery}
 use Rattle.ruling.proofs.Values.{a-call, a-report, IsOf, call-typed, report-typed}

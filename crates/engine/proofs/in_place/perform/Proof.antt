@@ -47,9 +47,9 @@ use Rattle.stores.proofs.Frame.{Held, Gives, gives, framed}
 use Rattle.stores.proofs.Places.{Known, known, lies, network-typed, whole-shows}
 use Rattle.stores.proofs.Calling.{calls-plain}
 use Rattle.stores.proofs.Lending.{Lends, lends, calls-giving}
-use Rattle.decision.specs.declared.Report.{Report}
-use Rattle.decision.proofs.Report as report
-use Rattle.decision.proofs.Report.Laws as report-laws
+use Rattle.report.specs.declared.Report.{Report}
+use Rattle.report.proofs.Report as report
+use Rattle.report.proofs.Report.Laws as report-laws
 use Rattle.task.specs.declared.Task.{Task}
 use Rattle.task.specs.declared.Task.the-variants.{Refuse, Call as CallTask, Owner, Drain}
 use Rattle.engine.specs.Outcomes.{applyOf, drainOf}
@@ -62,10 +62,10 @@ use Rattle.stores.proofs.Variants.{tag-of, field-of}
 use Rattle.engine.proofs.TaskValues.{a-refusal, a-serial, an-answer, a-task, refusal-typed, serial-typed, answer-typed, task-typed, by-task}
 use Rattle.members.specs.Members.{ownerAsked}
 use Rattle.engine.proofs.TaskLaws.{Reports, told-so, owner-told}
-use Rattle.engine.proofs.tasks.refuse as refuse
-use Rattle.engine.proofs.tasks.refuse.Symbol as refuse-def
-use Rattle.engine.proofs.tasks.refuse.Symbol.{name as #engine·tasks·refuse}
-use Rattle.engine.proofs.tasks.refuse.Met as refuse-met
+use Rattle.report.proofs.refused as refuse
+use Rattle.report.proofs.refused.Symbol as refuse-def
+use Rattle.report.proofs.refused.Symbol.{name as #report·refused}
+use Rattle.report.proofs.refused.Met as refuse-met
 use Rattle.engine.proofs.in_place.act as act
 use Rattle.engine.proofs.in_place.act.Symbol as act-def
 use Rattle.engine.proofs.in_place.act.Symbol.{name as #engine·in-place·act}
@@ -74,10 +74,10 @@ use Rattle.members.proofs.owner_of_record as owner
 use Rattle.members.proofs.owner_of_record.Symbol as owner-def
 use Rattle.members.proofs.owner_of_record.Symbol.{name as #members·owner-of-record}
 use Rattle.members.proofs.owner_of_record.Met as owner-met
-use Rattle.engine.proofs.tasks.tell as tell
-use Rattle.engine.proofs.tasks.tell.Symbol as tell-def
-use Rattle.engine.proofs.tasks.tell.Symbol.{name as #engine·tasks·tell}
-use Rattle.engine.proofs.tasks.tell.Met as tell-met
+use Rattle.report.proofs.told as tell
+use Rattle.report.proofs.told.Symbol as tell-def
+use Rattle.report.proofs.told.Symbol.{name as #report·told}
+use Rattle.report.proofs.told.Met as tell-met
 use Rattle.engine.proofs.in_place.drain as drain
 use Rattle.engine.proofs.in_place.drain.Symbol as drain-def
 use Rattle.engine.proofs.in_place.drain.Symbol.{name as #engine·in-place·drain}
@@ -115,10 +115,10 @@ module _ {M : Type 1} (𝓤 : URA M) (H : Heap 𝓤) (A : Atoms 𝓤) (W : Given
 
 -- ---- the walk
 module _ {M : Type 1} (𝓤 : URA M) (H : Heap 𝓤) (A : Atoms 𝓤) (W : Given 𝓤 H A) (at-mem : Memory → SProp 𝓤) (run : Routine → Fun 𝓤) (𝓣 : Tables 𝓤 H)
-    (known-refuse : Triple 𝓤 (𝓣 .C #engine·tasks·refuse) (Refuses 𝓤 H A at-mem run))
+    (known-refuse : Triple 𝓤 (𝓣 .C #report·refused) (Refuses 𝓤 H A at-mem run))
     (known-act : Triple 𝓤 (𝓣 .C #engine·in-place·act) (Act 𝓤 H A at-mem run))
     (known-owner : Triple 𝓤 (𝓣 .C #members·owner-of-record) (Owns 𝓤 H A at-mem run))
-    (known-tell : Triple 𝓤 (𝓣 .C #engine·tasks·tell) (Tells 𝓤 H A at-mem run))
+    (known-tell : Triple 𝓤 (𝓣 .C #report·told) (Tells 𝓤 H A at-mem run))
     (known-drain : Triple 𝓤 (𝓣 .C #engine·in-place·drain) (Drains 𝓤 H A at-mem run))
     (κ : Lft) (q : Share) (b o : ℕ) (γ : GName) (n : Network) (t : Task) where
   abbrev Done : Report → Network → Type 0
@@ -203,10 +203,10 @@ module _ {M : Type 1} (𝓤 : URA M) (H : Heap 𝓤) (A : Atoms 𝓤) (W : Given
       by ! (gives 𝓤 H A report.the-row Done κ q b o γ (word a-report r) r m is (done-so r m e (fact)))))))))))))))))))
 
 module _ {M : Type 1} (𝓤 : URA M) (H : Heap 𝓤) (A : Atoms 𝓤) (W : Given 𝓤 H A) (at-mem : Memory → SProp 𝓤) (run : Routine → Fun 𝓤) (𝓣 : Tables 𝓤 H)
-    (known-refuse : Triple 𝓤 (𝓣 .C #engine·tasks·refuse) (Refuses 𝓤 H A at-mem run))
+    (known-refuse : Triple 𝓤 (𝓣 .C #report·refused) (Refuses 𝓤 H A at-mem run))
     (known-act : Triple 𝓤 (𝓣 .C #engine·in-place·act) (Act 𝓤 H A at-mem run))
     (known-owner : Triple 𝓤 (𝓣 .C #members·owner-of-record) (Owns 𝓤 H A at-mem run))
-    (known-tell : Triple 𝓤 (𝓣 .C #engine·tasks·tell) (Tells 𝓤 H A at-mem run))
+    (known-tell : Triple 𝓤 (𝓣 .C #report·told) (Tells 𝓤 H A at-mem run))
     (known-drain : Triple 𝓤 (𝓣 .C #engine·in-place·drain) (Drains 𝓤 H A at-mem run)) where
   meets : Meets 𝓤 H A this.signature (WpFn 𝓤 H (𝓣 .C) (𝓣 .Λ) code.function) (this.spec 𝓤 H A at-mem run)
   meets = framed 𝓤 H A W (a-task ∷ []) a-report (this.clauses 𝓤 H A at-mem run) (λ κs n a. Allowed n (a .0)) (λ κs n a. Reports (doneOn n (a .0)))
@@ -219,8 +219,8 @@ perform-spec 𝓤 H 𝓜 𝓖 𝓡 =
     entered 𝓤 H (tripleOf 𝓤 H (𝓖 .A) this.signature (this.spec 𝓤 H (𝓖 .A) (𝓜 .mem) (𝓡 .run)))
     (tables 𝓤 H 𝓜 𝓡 code.env .C) (tables 𝓤 H 𝓜 𝓡 code.env .Λ) #engine·in-place·perform code.function (code.unfolded 𝓤 H 𝓜 𝓡)
     (meets 𝓤 H (𝓖 .A) (givenOf 𝓤 H 𝓜 𝓖) (𝓜 .mem) (𝓡 .run) (tablesOf 𝓤 H 𝓜 (tables 𝓤 H 𝓜 𝓡 code.env))
-    (cited 𝓤 H (Refuses 𝓤 H (𝓖 .A) (𝓜 .mem) (𝓡 .run)) 𝓜 𝓡 code.env #engine·tasks·refuse refuse-def.routine code.calls-engine·tasks·refuse (refuse-met.met 𝓤 H 𝓜 𝓖 𝓡))
+    (cited 𝓤 H (Refuses 𝓤 H (𝓖 .A) (𝓜 .mem) (𝓡 .run)) 𝓜 𝓡 code.env #report·refused refuse-def.routine code.calls-report·refused (refuse-met.met 𝓤 H 𝓜 𝓖 𝓡))
     (cited 𝓤 H (Act 𝓤 H (𝓖 .A) (𝓜 .mem) (𝓡 .run)) 𝓜 𝓡 code.env #engine·in-place·act act-def.routine code.calls-engine·in-place·act (act-met.met 𝓤 H 𝓜 𝓖 𝓡))
     (cited 𝓤 H (Owns 𝓤 H (𝓖 .A) (𝓜 .mem) (𝓡 .run)) 𝓜 𝓡 code.env #members·owner-of-record owner-def.routine code.calls-members·owner-of-record (owner-met.met 𝓤 H 𝓜 𝓖 𝓡))
-    (cited 𝓤 H (Tells 𝓤 H (𝓖 .A) (𝓜 .mem) (𝓡 .run)) 𝓜 𝓡 code.env #engine·tasks·tell tell-def.routine code.calls-engine·tasks·tell (tell-met.met 𝓤 H 𝓜 𝓖 𝓡))
+    (cited 𝓤 H (Tells 𝓤 H (𝓖 .A) (𝓜 .mem) (𝓡 .run)) 𝓜 𝓡 code.env #report·told tell-def.routine code.calls-report·told (tell-met.met 𝓤 H 𝓜 𝓖 𝓡))
     (cited 𝓤 H (Drains 𝓤 H (𝓖 .A) (𝓜 .mem) (𝓡 .run)) 𝓜 𝓡 code.env #engine·in-place·drain drain-def.routine code.calls-engine·in-place·drain (drain-met.met 𝓤 H 𝓜 𝓖 𝓡)))

@@ -54,16 +54,17 @@ use Rattle.stores.proofs.Data.{word}
 use Rattle.stores.proofs.Locals.{var, sets, lands-in}
 use Rattle.stores.proofs.Places.{Known, known}
 use Rattle.stores.proofs.Lending.{Lends, lends, calls-giving}
-use Rattle.decision.specs.declared.Report.{Report}
-use Rattle.decision.proofs.Report as Report
-use Rattle.decision.proofs.Report.Laws as Report′
+use Rattle.report.specs.declared.Report.{Report}
+use Rattle.report.proofs.Report as Report
+use Rattle.report.proofs.Report.Laws as Report′
 use Rattle.script.specs.Script.{readAt}
 use Rattle.task.specs.declared.Task.{Task}
 use Rattle.task.specs.declared.Asked.{Asked}
 use Rattle.engine.specs.declared.printing.Kept.{Kept}
 use Rattle.engine.specs.declared.printing.Progress.{Progress}
 use Rattle.engine.specs.Outcomes.{reported}
-use Rattle.engine.specs.Computed.{doneOn, Allowed, Asks}
+use Rattle.engine.specs.Computed.{doneOn, Allowed}
+use Rattle.task.specs.Tasks.{Asks}
 use Rattle.task.proofs.Task.Laws as task-laws
 use Rattle.task.proofs.Asked as As
 use Rattle.task.proofs.Asked.Laws as As′
@@ -75,10 +76,10 @@ use Rattle.engine.proofs.TaskValues.{a-task, task-typed}
 use Rattle.engine.proofs.TaskLaws.{Reports}
 use Rattle.engine.proofs.StepOfScript.{State, MayStep, Stepped, allowed, Left, Done, does}
 use Rattle.engine.proofs.printing.KeptRows.{Text, progressVal, lies, Shell, network-out, network-in}
-use Rattle.engine.proofs.tasks.ask as ask
-use Rattle.engine.proofs.tasks.ask.Symbol as ask-def
-use Rattle.engine.proofs.tasks.ask.Symbol.{name as #engine·tasks·ask}
-use Rattle.engine.proofs.tasks.ask.Met as ask-thm
+use Rattle.task.proofs.ask as ask
+use Rattle.task.proofs.ask.Symbol as ask-def
+use Rattle.task.proofs.ask.Symbol.{name as #task·ask}
+use Rattle.task.proofs.ask.Met as ask-thm
 use Rattle.engine.proofs.in_place.perform as perform
 use Rattle.engine.proofs.in_place.perform.Symbol as perform-def
 use Rattle.engine.proofs.in_place.perform.Symbol.{name as #engine·in-place·perform}
@@ -215,7 +216,7 @@ module _ {M : Type 1} (𝓤 : URA M) (H : Heap 𝓤) (A : Atoms 𝓤) (W : Given
       had ! P.the-type P′.the-plain r _ is $ done !
 
   -- ---- the MIR
-  module _ (𝓣 : Tables 𝓤 H) (known-ask : Triple 𝓤 (𝓣 .C #engine·tasks·ask) (Ask 𝓤 H A at-mem run)) (known-perform : Triple 𝓤 (𝓣 .C #engine·in-place·perform) (Perform 𝓤 H A at-mem run))
+  module _ (𝓣 : Tables 𝓤 H) (known-ask : Triple 𝓤 (𝓣 .C #task·ask) (Ask 𝓤 H A at-mem run)) (known-perform : Triple 𝓤 (𝓣 .C #engine·in-place·perform) (Perform 𝓤 H A at-mem run))
       (known-leave : Triple 𝓤 (𝓣 .C #engine·printing·leave-record) (Leave 𝓤 H A at-mem run)) (may : MayStep script from-here) (is-p : Is P.the-row p (progressVal p ∷ [])) where
     -- over the places of its locals
     module _ (l₀ l₁ l₂ l₃ l₄ l₅ l₆ l₇ l₈ l₉ l₁₀ l₁₁ : ℕ) where
@@ -328,7 +329,7 @@ module _ {M : Type 1} (𝓤 : URA M) (H : Heap 𝓤) (A : Atoms 𝓤) (W : Given
         keep ! (1 ∷ 0 ∷ 26 ∷ 27 ∷ 28 ∷ 29 ∷ 24 ∷ 22 ∷ 20 ∷ 18 ∷ 16 ∷ 14 ∷ 12 ∷ 10 ∷ 8 ∷ 6 ∷ 4 ∷ 2 ∷ 25 ∷ 23 ∷ 21 ∷ 19 ∷ 17 ∷ 15 ∷ 13 ∷ 11 ∷ 9 ∷ 7 ∷ 5 ∷ 3 ∷ []) $
         begins l₀ l₁ l₂ l₃ l₄ l₅ l₆ l₇ l₈ l₉ l₁₀ l₁₁ (lengths _ _ (sure .is)))))))))))))))
 
-module _ {M : Type 1} (𝓤 : URA M) (H : Heap 𝓤) (A : Atoms 𝓤) (W : Given 𝓤 H A) (at-mem : Memory → SProp 𝓤) (run : Routine → Fun 𝓤) (𝓣 : Tables 𝓤 H) (known-ask : Triple 𝓤 (𝓣 .C #engine·tasks·ask)
+module _ {M : Type 1} (𝓤 : URA M) (H : Heap 𝓤) (A : Atoms 𝓤) (W : Given 𝓤 H A) (at-mem : Memory → SProp 𝓤) (run : Routine → Fun 𝓤) (𝓣 : Tables 𝓤 H) (known-ask : Triple 𝓤 (𝓣 .C #task·ask)
     (Ask 𝓤 H A at-mem run))
     (known-perform : Triple 𝓤 (𝓣 .C #engine·in-place·perform) (Perform 𝓤 H A at-mem run)) (known-leave : Triple 𝓤 (𝓣 .C #engine·printing·leave-record) (Leave 𝓤 H A at-mem run)) where
   step-walks : Walks 𝓤 H A this.ended stayed (WpFn 𝓤 H (𝓣 .C) (𝓣 .Λ) code.function) (this.clauses 𝓤 H A at-mem run)
@@ -356,6 +357,6 @@ step-spec 𝓤 H 𝓜 𝓖 𝓡 =
     entered 𝓤 H (tripleOf 𝓤 H (𝓖 .A) this.signature (this.spec 𝓤 H (𝓖 .A) (𝓜 .mem) (𝓡 .run)))
     (tables 𝓤 H 𝓜 𝓡 code.env .C) (tables 𝓤 H 𝓜 𝓡 code.env .Λ) #engine·printing·step code.function (code.unfolded 𝓤 H 𝓜 𝓡)
     (step-meets 𝓤 H (𝓖 .A) (givenOf 𝓤 H 𝓜 𝓖) (𝓜 .mem) (𝓡 .run) (tablesOf 𝓤 H 𝓜 (tables 𝓤 H 𝓜 𝓡 code.env))
-    (cited 𝓤 H (Ask 𝓤 H (𝓖 .A) (𝓜 .mem) (𝓡 .run)) 𝓜 𝓡 code.env #engine·tasks·ask ask-def.routine code.calls-engine·tasks·ask (ask-thm.met 𝓤 H 𝓜 𝓖 𝓡))
+    (cited 𝓤 H (Ask 𝓤 H (𝓖 .A) (𝓜 .mem) (𝓡 .run)) 𝓜 𝓡 code.env #task·ask ask-def.routine code.calls-task·ask (ask-thm.met 𝓤 H 𝓜 𝓖 𝓡))
     (cited 𝓤 H (Perform 𝓤 H (𝓖 .A) (𝓜 .mem) (𝓡 .run)) 𝓜 𝓡 code.env #engine·in-place·perform perform-def.routine code.calls-engine·in-place·perform (perform-thm.met 𝓤 H 𝓜 𝓖 𝓡))
     (cited 𝓤 H (Leave 𝓤 H (𝓖 .A) (𝓜 .mem) (𝓡 .run)) 𝓜 𝓡 code.env #engine·printing·leave-record leave-def.routine code.calls-engine·printing·leave-record (leave-thm.met 𝓤 H 𝓜 𝓖 𝓡)))

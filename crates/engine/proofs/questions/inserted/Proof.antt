@@ -1,11 +1,7 @@
--- `engine::questions::inserted` meets its contract: 6 where the network is not well formed, and else the word and its ones. Assumes nothing.
+-- `engine::questions::inserted` meets its contract: 6 where the network is not well formed, and else the question. Assumes nothing.
 use borrow.Author.Needs.{needs}
-use mathlib.Core.Path.{sym, ap, _∙_}
-use Prim.Native.Nat.{ℕ}
-use lib.Count.{ones}
+use mathlib.Core.Path.{sym, _∙_}
 use borrow.Author.Tests.{not-true, not-false}
-use Rattle.refusal.specs.Rules.{done}
-use Rattle.protocol.specs.declared.Reply.the-variants.{Inserted}
 use Rattle.network.proofs.Lengths.{lengths}
 use Rattle.members.proofs.QuestionLaws.{inserted-told}
 use Rattle.engine.specs.Answers.{insertedOf}
@@ -19,10 +15,9 @@ returns c = rw (sym (c .before .is-well-formed .ensures) ∙ not-true _ (c .if1 
 returns-2 : tie.Need-returns-2
 unfolding insertedOf
 returns-2 c =
-    let tested = c .before .before in
-    let start = tested .before in
-    let h = sym (tested .is-well-formed .ensures) ∙ not-false _ (c .before .if1 .left) in
-    ap (λ (w : ℕ). done (Inserted w (ones w))) (c .word .ensures) ∙ rw h (inserted-told (start .args .network) (lengths _ _ (start .good .0)) h)
+    let start = c .before .before .before in
+    let h = sym (c .before .before .is-well-formed .ensures) ∙ not-false _ (c .before .if1 .left) in
+    rw h (c .inserted .ensures ∙ inserted-told (start .args .network) (lengths _ _ (start .good .0)) h)
 
 pub inserted-spec : {M : Type 1} → statement M
 inserted-spec =

@@ -1,4 +1,4 @@
--- `engine::tasks::ask` meets its contract, by what was read. Assumes nothing.
+-- `task::ask` meets its contract, by what was read. Assumes nothing.
 use borrow.Author.Needs.{needs}
 use mathlib.Core.Path.{_≡_, refl, subst}
 use Prim.Native.Nat.{ℕ}
@@ -6,11 +6,10 @@ use lib.ListN.{length}
 use Rattle.script.specs.declared.Reading.{Reading}
 use Rattle.script.specs.declared.Reading.the-variants.{End, Stopped, Next}
 use Rattle.script.specs.Script.{Read, reading}
 use Rattle.task.specs.declared.Asked.{Asked}
-use Rattle.task.specs.Tasks.{taskRead, cursorAfter}
-use Rattle.engine.specs.Computed.{Asks}
-use Rattle.engine.proofs.tasks.ask.Statement.{statement}
-use Rattle.engine.proofs.tasks.ask.Tie as tie
+use Rattle.task.specs.Tasks.{taskRead, cursorAfter, Asks}
+use Rattle.task.proofs.ask.Statement.{statement}
+use Rattle.task.proofs.ask.Tie as tie
 
 asks : (size : ℕ) (r : Reading) (a : Asked) → (a .task ≡ taskRead r) × (a .after ≡ cursorAfter size r) → Asks size (reading r) a
 asks size End a e = tt
