@@ -9,26 +9,11 @@ use lib.Seq.{paste}
 use Rattle.text.specs.Text.{ascii, decimal, Put}
 use Rattle.refusal.specs.Code.{plain}
 use Rattle.refusal.specs.Rules.{Coded, done, no}
-use Rattle.node.specs.declared.Outcome.{Outcome}
-use Rattle.node.specs.declared.Outcome.the-variants.{Created, Waiting, LeftAlone, Granted, Denied, Joined, Gone, JoinDenied, LeaveDenied, LeftSet, LeftOld, Dropped}
+use Rattle.words.specs.Words.{outcomeWord}
 use Rattle.protocol.specs.declared.Reply.{Reply}
 use Rattle.protocol.specs.declared.Reply.the-variants.{Declared, Stepped, Owner, Ran, Inserted}
 
 -- ---- the words of an answer
-abbrev pub outcomeWord : Outcome → List ℕ
-outcomeWord Created = ascii "created"
-outcomeWord Waiting = ascii "waiting"
-outcomeWord LeftAlone = ascii "out"
-outcomeWord Granted = ascii "granted"
-outcomeWord Denied = ascii "denied"
-outcomeWord Joined = ascii "joined"
-outcomeWord Gone = ascii "gone"
-outcomeWord JoinDenied = ascii "join-denied"
-outcomeWord LeaveDenied = ascii "leave-denied"
-outcomeWord LeftSet = ascii "left-set"
-outcomeWord LeftOld = ascii "left-old"
-outcomeWord Dropped = ascii "dropped"
-
 -- a word and a number, and then another word and another number
 abbrev pub pair : List ℕ → ℕ → List ℕ → ℕ → List ℕ
 pair word n word' n' = word ++ decimal n ++ word' ++ decimal n'

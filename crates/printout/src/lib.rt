@@ -2,36 +2,17 @@
 // whatever its numbers, so nothing is asked of the caller. A word is put with the space before it and the line end after it, as one constant.
 ghost use mathlib.Core.Path.{_≡_};
 ghost use Prim.Native.Nat.{_+_, _≤_};
-ghost use lib.Dec.{ltb};
 ghost use lib.ListN.{length};
-ghost use Rattle.text.specs.Text.{Put};
 ghost use Rattle.refusal.specs.Code.{reason};
 ghost use Rattle.refusal.specs.Rules.{done, no};
-ghost use Rattle.protocol.specs.declared.Reply.the-variants.{Declared, Stepped, Owner, Ran};
-ghost use Rattle.printout.specs.Lines.{lineOf, lastLine, ending, Ended, Printed};
+ghost use Rattle.protocol.specs.declared.Reply.the-variants.{Declared, Owner, Ran};
+ghost use Rattle.printout.specs.Lines.{lineOf, lastLine, Ended, Printed};
 ghost use Rattle.printout.specs.Items.{Item, LastItem};
-use node::Outcome;
 use protocol::Reply;
 use refusal::Refusal;
 
-fn put_outcome(text: &mut [u8], at: usize, outcome: Outcome) -> usize
-    ensures { λ r. ⌜ Put (now (text .entry)) at (ending (done (Stepped outcome))) (now (text .exit)) r ⌝ }
-{
-    match outcome {
-        Outcome::Created => text::append(text, at, b" created\n"),
-        Outcome::Waiting => text::append(text, at, b" waiting\n"),
-        Outcome::LeftAlone => text::append(text, at, b" out\n"),
-        Outcome::Granted => text::append(text, at, b" granted\n"),
-        Outcome::Denied => text::append(text, at, b" denied\n"),
-        Outcome::Joined => text::append(text, at, b" joined\n"),
-        Outcome::Gone => text::append(text, at, b" gone\n"),
-        Outcome::JoinDenied => text::append(text, at, b" join-denied\n"),
-        Outcome::LeaveDenied => text::append(text, at, b" leave-denied\n"),
-        Outcome::LeftSet => text::append(text, at, b" left-set\n"),
-        Outcome::LeftOld => text::append(text, at, b" left-old\n"),
-        Outcome::Dropped => text::append(text, at, b" dropped\n"),
-    }
-}
+// No line has more bytes.
+const LINE: usize = 40;
 
 // An item of a line: a word, and a number after it.
 fn put_item(text: &mut [u8], at: usize, word: &[u8], n: u32) -> usize
@@ -79,23 +60,10 @@ fn put_reply(text: &mut [u8], at: usize, reply: Reply) -> usize
 {
     match reply {
         Reply::Declared { number, key } => put_bench(text, at, number, key),
-        Reply::Stepped(outcome) => put_outcome(text, at, outcome),
+        Reply::Stepped(outcome) => words::put_outcome(text, at, outcome),
         Reply::Owner { node, hops } => put_owner(text, at, node, hops),
         Reply::Ran { made, left } => put_ran(text, at, made, left),
         Reply::Inserted { word: _, size: _ } => text::append(text, at, b" \n"),
-    }
-}
-
-// Whether forty bytes find no room in a text of so many bytes, from place `at` on.
-fn is_full(size: usize, at: usize) -> bool
-    ensures { λ r. ⌜ r ≡ ltb size (at + 40) ⌝ }
-{
-    if size < 40 {
-        true
-    } else if size - 40 < at {
-        true
-    } else {
-        false
     }
 }
 
@@ -103,7 +71,7 @@ fn is_full(size: usize, at: usize) -> bool
 pub fn reply_line(text: &mut [u8], at: usize, ordinal: u32, reply: Reply) -> usize
     ensures { λ r. ⌜ Printed (now (text .entry)) at (lineOf ordinal (done reply)) (now (text .exit)) r ⌝ }
 {
-    if is_full(text.len(), at) {
+    if text::lacks_room(text.len(), at, LINE) {
         return at;
     }
     let at = text::append_decimal(text, at, ordinal);
@@ -114,7 +82,7 @@ pub fn reply_line(text: &mut [u8], at: usize, ordinal: u32, reply: Reply) -> usi
 pub fn refusal_line(text: &mut [u8], at: usize, ordinal: u32, refusal: Refusal) -> usize
     ensures { λ r. ⌜ Printed (now (text .entry)) at (lineOf ordinal (no (reason refusal))) (now (text .exit)) r ⌝ }
 {
-    if is_full(text.len(), at) {
+    if text::lacks_room(text.len(), at, LINE) {
         return at;
     }
     let at = text::append_decimal(text, at, ordinal);
@@ -125,7 +93,7 @@ pub fn refusal_line(text: &mut [u8], at: usize, ordinal: u32, refusal: Refusal) 
 pub fn last_line(text: &mut [u8], at: usize, waiting: u8, posted: u32) -> usize
     ensures { λ r. ⌜ Printed (now (text .entry)) at (lastLine waiting posted) (now (text .exit)) r ⌝ }
 {
-    if is_full(text.len(), at) {
+    if text::lacks_room(text.len(), at, LINE) {
         return at;
     }
     let at = put_item(text, at, b"end ", waiting as u32);

@@ -1,8 +1,23 @@
 // Text in a buffer: a piece of bytes, or a number in decimal, put from a place on. Where a piece does not fit nothing is written, so
-// neither function asks anything of its caller.
+// no function asks anything of its caller.
 ghost use mathlib.Core.Path.{_≡_};
+ghost use Prim.Native.Nat.{_+_};
+ghost use lib.Dec.{ltb};
 ghost use Rattle.io.specs.Digits.{Fewest};
 ghost use Rattle.text.specs.Text.{pasted, placeAfter, decimal};
+
+// Whether so many bytes find no room in a buffer of this size, from place `at` on.
+pub fn lacks_room(size: usize, at: usize, bytes: usize) -> bool
+    ensures { λ r. ⌜ r ≡ ltb size (at + bytes) ⌝ }
+{
+    if size < bytes {
+        true
+    } else if size - bytes < at {
+        true
+    } else {
+        false
+    }
+}
 
 // Puts a piece into the buffer from place `at` on, and answers the place after it.
 pub fn append(buffer: &mut [u8], at: usize, piece: &[u8]) -> usize

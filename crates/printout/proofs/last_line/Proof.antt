@@ -11,7 +11,7 @@ whole c =
     let test = one .before .before .before in
     let start = test .before .before .before in
     printed-last
-    (roomy (test .before .is-full .ensures) (test .if1 .left))
+    (roomy (test .before .lacks-room .ensures) (test .if1 .left))
     (start .fits .waiting .fits)
     (start .fits .posted .fits)
     (one .put-item .ensures) (last .put-last-item .ensures)
@@ -21,7 +21,7 @@ last-line-spec =
     tie.close
     (tie.spec
     (λ c κs. tt)
-    (λ c. not-printed (full (c .before .is-full .ensures) (c .if1 .taken)))
+    (λ c. not-printed (full (c .before .lacks-room .ensures) (c .if1 .taken)))
     (λ c. refl)
     (λ c κs. tt)
     (λ c. refl)

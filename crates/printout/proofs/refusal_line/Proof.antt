@@ -13,7 +13,7 @@ whole c =
     let number = code .before .before .before .before .before in
     let test = number .before .before in
     let large = test .before .before .before .fits .ordinal .fits in
-    let room = roomy (test .before .is-full .ensures) (test .if1 .left) in
+    let room = roomy (test .before .lacks-room .ensures) (test .if1 .left) in
     let ordinal = put (number .append-decimal .ensures) in
     rw (← code .number .ensures)
     (printed-line room large ordinal (put-refusal (after-ordinal room large ordinal) (code .number .ok) (last .put-last-item .ensures)))
@@ -23,7 +23,7 @@ refusal-line-spec =
     tie.close
     (tie.spec
     (λ c κs. tt)
-    (λ c. not-printed (full (c .before .is-full .ensures) (c .if1 .taken)))
+    (λ c. not-printed (full (c .before .lacks-room .ensures) (c .if1 .taken)))
     (λ c κs. tt)
     (λ c. refl)
     (λ c κs. tt)

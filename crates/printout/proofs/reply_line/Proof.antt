@@ -8,7 +8,7 @@ put-reply-requires : tie.Need-put-reply-requires
 put-reply-requires c κs =
     let number = c .before .before .before in
     let test = number .before .before in
-    let room = roomy (test .before .is-full .ensures) (test .if1 .left) in
+    let room = roomy (test .before .lacks-room .ensures) (test .if1 .left) in
     after-ordinal room (test .before .before .before .fits .ordinal .fits) (put (number .append-decimal .ensures))
 
 whole : tie.Need-returns-2
@@ -16,7 +16,7 @@ whole c =
     let words = c .before .before in
     let number = words .before .before .before .before in
     let test = number .before .before in
-    let room = roomy (test .before .is-full .ensures) (test .if1 .left) in
+    let room = roomy (test .before .lacks-room .ensures) (test .if1 .left) in
     printed-line room (test .before .before .before .fits .ordinal .fits) (put (number .append-decimal .ensures)) (words .put-reply .ensures)
 
 pub reply-line-spec : {M : Type 1} → statement M
@@ -24,7 +24,7 @@ reply-line-spec =
     tie.close
     (tie.spec
     (λ c κs. tt)
-    (λ c. not-printed (full (c .before .is-full .ensures) (c .if1 .taken)))
+    (λ c. not-printed (full (c .before .lacks-room .ensures) (c .if1 .taken)))
     (λ c κs. tt)
     put-reply-requires
     (λ c. printed-keeps-length (whole c))

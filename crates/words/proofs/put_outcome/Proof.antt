@@ -1,9 +1,9 @@
--- `printout::put_outcome` meets its contract: each arm puts the word of its outcome. Assumes nothing.
+-- `words::put_outcome` meets its contract: each arm puts the word of its outcome. Assumes nothing.
 use mathlib.Core.Path.{refl}
 use borrow.Author.Needs.{needs}
 use Rattle.text.proofs.Laws.{put, put-keeps-length}
-use Rattle.printout.proofs.put_outcome.Statement.{statement}
-use Rattle.printout.proofs.put_outcome.Tie as tie
+use Rattle.words.proofs.put_outcome.Statement.{statement}
+use Rattle.words.proofs.put_outcome.Tie as tie
 
 pub put-outcome-spec : {M : Type 1} → statement M
 put-outcome-spec =

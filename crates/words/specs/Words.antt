@@ -1,0 +1,24 @@
+-- What the printout calls an outcome: paper 01's words. Definitions only.
+use Prim.Native.Nat.{ℕ}
+use mathlib.Core.List.{List, _++_}
+use Rattle.text.specs.Text.{ascii}
+use Rattle.node.specs.declared.Outcome.{Outcome}
+use Rattle.node.specs.declared.Outcome.the-variants.{Created, Waiting, LeftAlone, Granted, Denied, Joined, Gone, JoinDenied, LeaveDenied, LeftSet, LeftOld, Dropped}
+
+abbrev pub outcomeWord : Outcome → List ℕ
+outcomeWord Created = ascii "created"
+outcomeWord Waiting = ascii "waiting"
+outcomeWord LeftAlone = ascii "out"
+outcomeWord Granted = ascii "granted"
+outcomeWord Denied = ascii "denied"
+outcomeWord Joined = ascii "joined"
+outcomeWord Gone = ascii "gone"
+outcomeWord JoinDenied = ascii "join-denied"
+outcomeWord LeaveDenied = ascii "leave-denied"
+outcomeWord LeftSet = ascii "left-set"
+outcomeWord LeftOld = ascii "left-old"
+outcomeWord Dropped = ascii "dropped"
+
+-- the word as it ends a line
+abbrev pub outcomeEnding : Outcome → List ℕ
+outcomeEnding o = ascii " " ++ outcomeWord o ++ ascii "\n"
