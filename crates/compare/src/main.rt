@@ -1,26 +1,18 @@
 // Runs scripts made by chance through the ring program and through a second model of it, and holds the two printouts against each other, byte for byte.
 // It writes how often each order had each answer, and last whether any script differed.
-mod lines;
-mod model;
-mod packed;
 mod playing;
 mod random;
-mod reading;
-mod record;
-mod rules;
-mod sheet;
 mod steering;
-mod text;
 
-use lines::name;
-use model::PASSED;
-use model::count;
+use model::lines::name;
+use model::network::PASSED;
+use model::network::count;
+use model::record::mark;
+use model::sheet::*;
+use model::text::*;
 use playing::*;
-use record::mark;
-use sheet::*;
 use std::num::wrapping_add_usize as plus;
 use std::num::wrapping_sub_usize as minus;
-use text::*;
 
 const ALL_SCRIPTS: usize = 1000;
 

@@ -1,13 +1,13 @@
 // A script by chance, and the model's printout of any script.
-use crate::lines::*;
-use crate::model::*;
 use crate::random::*;
-use crate::reading::*;
-use crate::record::*;
-use crate::rules::*;
-use crate::sheet::*;
 use crate::steering::*;
-use crate::text::*;
+use model::lines::*;
+use model::network::*;
+use model::reading::*;
+use model::record::*;
+use model::rules::*;
+use model::sheet::*;
+use model::text::*;
 use std::num::wrapping_add_usize as plus;
 use std::num::wrapping_sub_usize as minus;
 

@@ -1,15 +1,15 @@
 // Scripts by chance. Records are drawn until one comes whose answer, as the network of the model is by then, is welcome; so that orders of every outcome
 // come in good number. A script has a mood, its own throw, which gives its temper, a row of weights for the orders, and how many nodes are wanted.
 // The number after a throw tells one purpose from another.
-use crate::model::*;
-use crate::packed::*;
 use crate::random::*;
-use crate::reading::*;
-use crate::record::node_and_two;
-use crate::record::record;
-use crate::record::serial;
-use crate::rules::*;
-use crate::sheet::*;
+use model::network::*;
+use model::packed::*;
+use model::reading::*;
+use model::record::node_and_two;
+use model::record::record;
+use model::record::serial;
+use model::rules::*;
+use model::sheet::*;
 use std::num::wrapping_add_usize as plus;
 use std::num::wrapping_sub_usize as minus;
 
@@ -198,19 +198,6 @@ fn some_join(network: &Sheet, throw: usize) -> usize {
     )
 }
 
-// The first place from a given one with anything but a notice, or the number of messages.
-fn place_of_no_notice(network: &Sheet, from: usize) -> usize {
-    let messages = count(network, UNDERWAY);
-    let mut slot = slot_before(network, from);
-    for place in from..messages {
-        slot = get(network, NEXT, slot);
-        if digit(get(network, MESSAGE, slot), KIND) != SETL {
-            return place;
-        }
-    }
-    messages
-}
-
 // The first message, the last, or any, and a few places where no message need be; where notices are to lie, anything else behind the first.
 fn some_place(network: &Sheet, temper: usize, throw: usize) -> usize {
     let messages = count(network, UNDERWAY);
@@ -382,12 +369,6 @@ fn faulty(network: &Sheet, throw: usize) -> usize {
     }
 }
 
-// The network is full and a request comes first: a drain may have to pass it over.
-fn is_full_behind_request(network: &Sheet) -> bool {
-    let first = message_at(network, 0);
-    count(network, UNDERWAY) == FULL && digit(first, KIND) == SETR
-}
-
 fn welcome_record(network: &Sheet, mood: usize, throw: usize) -> usize {
     let mut own = throw;
     for _ in 0..DRAWS {
@@ -415,12 +396,4 @@ pub(crate) fn choose(network: &Sheet, mood: usize, throw: usize) -> usize {
     } else {
         welcome_record(network, mood, throw)
     }
-}
-
-// No node is in, some are not out, and nothing is under way: from here on no request is granted.
-pub(crate) fn is_stuck(network: &Sheet) -> bool {
-    if count(network, UNDERWAY) > 0 {
-        return false;
-    }
-    how_many(network, IN) == 0 && !are_all_out(network)
 }
