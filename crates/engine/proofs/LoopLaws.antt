@@ -15,7 +15,7 @@ use Rattle.network.proofs.ArrayLaws.{live-held, held-well-formed}
 use Rattle.network.proofs.LiveLaws.{messages-length}
 use Rattle.network.proofs.Lengths.{Lengths}
 use Rattle.printout.specs.Lines.{heading, lastLine}
-use Rattle.engine.specs.declared.printing.Progress.{Progress}
+use Rattle.progress.specs.declared.Progress.{Progress}
 use Rattle.engine.specs.declared.printing.Kept.{Kept}
 use Rattle.course.specs.Run.{Progress as Reached, start, stepOf, after, closed, sizeLimit, tooLong, printoutOf}
 use Rattle.engine.specs.Reached.{reached}

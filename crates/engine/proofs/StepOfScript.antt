@@ -7,10 +7,10 @@ use Prim.Native.Nat.{ℕ, _+_, _≤_, _<_}
 use lib.ListN.{length, take}
 use lib.Seq.{length-take-le}
 use Rattle.io.specs.Counts.{Counts}
-use Rattle.refusal.specs.declared.Refusal.{Refusal}
-use Rattle.refusal.specs.Code.{Reason, reason}
-use Rattle.refusal.specs.Rules.{no}
+use Rattle.refusal.specs.Code.{Reason}
+use Rattle.refusal.specs.Rules.{Coded, done as replied, no}
 use native.Mathlib.Omega.{arith}
+use native.Mathlib.Nat.{mod-eq-of-lt}
 use Rattle.text.specs.Text.{pasted, placeAfter}
 use Rattle.text.proofs.Laws.{place-after, take-pasted}
 use Rattle.network.specs.declared.Network.{Network}
@@ -19,18 +19,19 @@ use Rattle.network.proofs.ArrayLaws.{live-held}
 use Rattle.network.proofs.Lengths.{Lengths}
 use Rattle.script.specs.Script.{Read, end, stop, next, readAt}
 use Rattle.script.proofs.Laws.{before-end}
-use Rattle.protocol.specs.declared.Answer.{Answer}
-use Rattle.protocol.specs.declared.Answer.the-variants.{Refused}
+use Rattle.protocol.specs.declared.Reply.{Reply}
+use Rattle.report.specs.declared.Report.{Report}
 use Rattle.protocol.specs.Answer.{answered}
 use Rattle.printout.specs.Lines.{lineOf, Printed}
 use Rattle.printout.proofs.Laws.{printed-short, printed-there}
-use Rattle.engine.specs.declared.printing.Progress.{Progress}
+use Rattle.progress.specs.declared.Progress.{Progress}
+use Rattle.progress.specs.Leaving.{postedAfter, Leaves}
 use Rattle.engine.specs.declared.printing.Kept.{Kept}
 use Rattle.course.specs.Performance.{performOf as performOnLists}
 use Rattle.course.specs.Run.{Progress as Reached, stepOf}
-use Rattle.engine.specs.Outcomes.{Counted, counted, refused}
+use Rattle.engine.specs.Outcomes.{Counted, counted, refused, reported}
 use Rattle.engine.specs.InArrays.{performOf}
-use Rattle.engine.specs.Reached.{reached, refusalIn}
+use Rattle.engine.specs.Reached.{reached}
 use Rattle.engine.proofs.RecordLaws.{on-lists, stays-well-formed, few-posted, refused-unchanged}
 use Rattle.engine.proofs.TaskLaws.{task-done}
 use Rattle.task.specs.declared.Task.{Task}
@@ -125,8 +126,18 @@ line-there room p =
     let (reads, few, same) = printed-whole room p in
     (reads, few)
 
-pub refused-says : {answer : Answer} {r : Refusal} → answer ≡ Refused r → no (reason (refusalIn answer)) ≡ answered answer
-refused-says e = rw e
+-- ---- a record that is left, where there is room and no count wraps
+module _ (p r : Progress) (after : ℕ) (m : Network) (report : Report) (text buffer : List ℕ) (may : (p .used + 40 ≤ 1_048_576) × (p .ordinal < 100_000) × (p .posted < 100_000_000))
+    (few : report .posted ≤ 384) (quiet : (q : Reason) → answered (report .answer) ≡ no q → report .posted ≡ 0) where
+  summed : (s : Coded Reply) → answered (report .answer) ≡ s → postedAfter (p .posted) s (report .posted) ≡ p .posted + report .posted
+  summed (replied reply) e = mod-eq-of-lt (omega (arith, may .2, few))
+  summed (no q) e = omega (arith, quiet q e)
+
+  pub leaves-so : Leaves p after report text r buffer → Left p r after (reported m report) text buffer
+  leaves-so (at, ordinal, posted, line, whole) =
+      let next : r .ordinal ≡ p .ordinal + 1 = ordinal ∙ mod-eq-of-lt (omega (arith, may .1)) in
+      let (reads, short) = line-there (omega (arith, may .0, whole)) line in
+      (at, next, posted ∙ summed (answered (report .answer)) refl, reads ∙ ap (λ o. take (p .used) text ++ lineOf o (answered (report .answer))) next, short)
 
 -- and a piece that is put there, as the heading is
 pub line-put : (text after piece line : List ℕ) (at r : ℕ) → (r ≡ placeAfter text at piece) × (after ≡ pasted text at piece) → piece ≡ line

@@ -2,20 +2,11 @@
 use Prim.Native.Nat.{ℕ}
 use mathlib.Core.List.{List}
 use lib.ListN.{take}
-use Rattle.refusal.specs.declared.Refusal.{Refusal}
-use Rattle.refusal.specs.declared.Refusal.the-variants.{Malformed}
-use Rattle.protocol.specs.declared.Answer.{Answer}
-use Rattle.protocol.specs.declared.Answer.the-variants.{Done, Refused}
 use Rattle.network.specs.declared.Network.{Network}
 use Rattle.network.specs.Arrays.{live}
-use Rattle.engine.specs.declared.printing.Progress.{Progress}
+use Rattle.progress.specs.declared.Progress.{Progress}
 use Rattle.course.specs.Run.{Progress as ProgressOfLists}
 
 -- the network beside the progress; the printout so far stands at the start of a buffer
 abbrev pub reached : Network → Progress → List ℕ → ProgressOfLists
 reached n p buffer = record { state = live n; at = p .at; ordinal = p .ordinal; posted = p .posted; text = take (p .used) buffer }
-
--- the refusal in an answer; of one that is done it is not asked for
-abbrev pub refusalIn : Answer → Refusal
-refusalIn (Done reply) = Malformed
-refusalIn (Refused r) = r

@@ -4,11 +4,8 @@
 ghost use Prim.Native.Nat.{_+_, _≤_, _<_};
 ghost use Rattle.io.specs.Counts.{Counts};
 ghost use Rattle.network.specs.Arrays.{empty, wellFormed};
-ghost use Rattle.refusal.specs.Code.{Reason};
-ghost use Rattle.refusal.specs.Rules.{no};
-ghost use Rattle.protocol.specs.Answer.{answered};
-ghost use Rattle.printout.specs.Lines.{heading, lineOf, lastLine};
-ghost use Rattle.engine.specs.Reached.{reached, refusalIn};
+ghost use Rattle.printout.specs.Lines.{heading, lastLine};
+ghost use Rattle.engine.specs.Reached.{reached};
 ghost use Rattle.course.specs.Run.{stepOf, after, closed, sizeLimit, tooLong, printoutOf};
 ghost use lib.ListN.{length, take};
 ghost use mathlib.Core.Bool.{true};
@@ -16,9 +13,8 @@ ghost use mathlib.Core.List.{_++_};
 ghost use mathlib.Core.Path.{_≡_};
 use crate::in_place;
 use network::Network;
-use protocol::Answer;
+use progress::Progress;
 use refusal::Refusal;
-use report::Report;
 
 // "A script is at most 65,536 bytes."
 pub const SIZE_LIMIT: usize = 65_536;
@@ -26,14 +22,6 @@ pub const SIZE_LIMIT: usize = 65_536;
 // What a run keeps from record to record.
 struct Kept {
     network: Network,
-}
-
-// How far a run has come beside that: the cursor, the ordinal of the last record, all messages posted, and the bytes printed.
-struct Progress {
-    at: usize,
-    ordinal: u32,
-    posted: u32,
-    used: usize,
 }
 
 fn nothing_kept() -> Kept
@@ -44,48 +32,12 @@ fn nothing_kept() -> Kept
     }
 }
 
-// The refusal in an answer; of one that is done it is not asked for.
-fn refusal_in(answer: Answer) -> Refusal
-    ensures { λ r. ⌜ r ≡ refusalIn answer ⌝ }
-{
-    match answer {
-        Answer::Done(_) => Refusal::Malformed,
-        Answer::Refused(refusal) => refusal,
-    }
-}
-
 fn put_last(text: &mut [u8], at: usize, waiting: u8, posted: u32) -> usize
     requires { ⌜ at + 40 ≤ length (now text) ⌝ }
     ensures { λ r. ⌜ take r (now (text .exit)) ≡ take at (now (text .entry)) ++ lastLine waiting posted ⌝ }
     ensures { λ r. ⌜ r ≤ at + 40 ⌝ }
 {
     printout::last_line(text, at, waiting, posted)
-}
-
-// A record is left with its line printed and the cursor past it; at once where it is refused, since it then has posted nothing.
-fn leave_record(text: &mut [u8; 1048576], p: Progress, after: usize, report: Report) -> Progress
-    requires { ⌜ (p .used + 40 ≤ 1_048_576) × (p .ordinal < 100_000) × (p .posted < 100_000_000) × (report .posted ≤ 384) × ((r : Reason) → answered (report .answer) ≡ no r → report .posted ≡ 0) ⌝ }
-    ensures { λ r. ⌜ (r .at ≡ after) × (r .ordinal ≡ p .ordinal + 1) × (r .posted ≡ p .posted + report .posted)
-        × (take (r .used) (now (text .exit)) ≡ take (p .used) (now (text .entry)) ++ lineOf (p .ordinal + 1) (answered (report .answer))) × (r .used ≤ p .used + 40) ⌝ }
-{
-    let ordinal = p.ordinal + 1;
-    let answer = report.answer;
-    let Answer::Done(reply) = answer else {
-        let used = printout::refusal_line(text, p.used, ordinal, refusal_in(answer));
-        return Progress {
-            at: after,
-            ordinal,
-            posted: p.posted,
-            used,
-        };
-    };
-    let used = printout::reply_line(text, p.used, ordinal, reply);
-    Progress {
-        at: after,
-        ordinal,
-        posted: p.posted + report.posted,
-        used,
-    }
 }
 
 // One more record, where one begins: what it asks is done on the network where it lies, and its line is printed.
@@ -99,7 +51,7 @@ fn step(kept: &mut Kept, script: &[u8], text: &mut [u8; 1048576], p: Progress) -
     let task = asked.task;
     let report = in_place::perform(&mut kept.network, task);
     let after = asked.after;
-    leave_record(text, p, after, report)
+    progress::leave_record(text, p, after, report)
 }
 
 // The last line, after all the records.

@@ -29,11 +29,11 @@ use Rattle.network.proofs.Network as N
 use Rattle.network.proofs.Network.Laws as N′
 use Rattle.network.proofs.Walking.{seen, had, is-val, at-val}
 use Rattle.engine.specs.declared.printing.Kept.{Kept}
-use Rattle.engine.specs.declared.printing.Progress.{Progress}
+use Rattle.progress.specs.declared.Progress.{Progress}
 use Rattle.engine.proofs.printing.Kept as K
 use Rattle.engine.proofs.printing.Kept.Laws as K′
-use Rattle.engine.proofs.printing.Progress as P
-use Rattle.engine.proofs.printing.Progress.Laws as P′
+use Rattle.progress.proofs.Progress as P
+use Rattle.progress.proofs.Progress.Laws as P′
 
 abbrev pub Text : RattleType
 Text = Array u8 1_048_576

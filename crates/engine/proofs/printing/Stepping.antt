@@ -37,11 +37,11 @@ use Rattle.network.proofs.Lengths.{Lengths, lengths}
 use Rattle.network.proofs.Walking.{seen, had, returned}
 use Rattle.stores.proofs.Lending.{Loan}
 use Rattle.engine.specs.declared.printing.Kept.{Kept}
-use Rattle.engine.specs.declared.printing.Progress.{Progress}
+use Rattle.progress.specs.declared.Progress.{Progress}
 use Rattle.engine.proofs.printing.Kept as K
 use Rattle.engine.proofs.printing.Kept.Laws as K′
-use Rattle.engine.proofs.printing.Progress as P
-use Rattle.engine.proofs.printing.Progress.Laws as P′
+use Rattle.progress.proofs.Progress as P
+use Rattle.progress.proofs.Progress.Laws as P′
 use Rattle.engine.proofs.StepOfScript.{State, MayStep, Stepped}
 use Rattle.engine.proofs.printing.KeptRows.{Text, KeptIs, keptVal, progressVal, lies, lies-in, lies-out}
 use Rattle.engine.proofs.printing.step as step

@@ -56,12 +56,12 @@ use Rattle.network.proofs.Walking.{by-cases, seen, had, returned, is-val, at-va
 use Rattle.printout.specs.Lines.{heading, lastLine}
 use Rattle.stores.proofs.Lending.{Loan}
 use Rattle.engine.specs.declared.printing.Kept.{Kept}
-use Rattle.engine.specs.declared.printing.Progress.{Progress}
+use Rattle.progress.specs.declared.Progress.{Progress}
 use Rattle.course.specs.Run.{after, closed, sizeLimit}
 use Rattle.engine.proofs.printing.Kept as K
 use Rattle.engine.proofs.printing.Kept.Laws as K′
-use Rattle.engine.proofs.printing.Progress as P
-use Rattle.engine.proofs.printing.Progress.Laws as P′
+use Rattle.progress.proofs.Progress as P
+use Rattle.progress.proofs.Progress.Laws as P′
 use Rattle.engine.proofs.StepOfScript.{State}
 use Rattle.engine.proofs.LoopLaws.{Turn, begun, first-turn, room, may-step, next-cursor, next-turn, whole-printout}
 use Rattle.engine.proofs.printing.KeptRows.{Text, KeptIs, keptVal, progressVal, lies, lies-in, lies-out}

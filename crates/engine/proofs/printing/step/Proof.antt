@@ -42,9 +42,6 @@ use denote.Triple.Spec.{Meets, tripleOf}
 use denote.Triple.Table.{entered, cited}
 use denote.Triple.Walked.{says, needs, Stays, stay-ref, gave-ref, stay-dropped, walkOf, AllGo, goes-ref, goes-gave-ref, goes-dropped, Walks, ends-at, walked, walk-meets}
 use denote.Exit.{yes}
-use Rattle.refusal.specs.Code.{Reason}
-use Rattle.refusal.specs.Rules.{no}
-use Rattle.protocol.specs.Answer.{answered}
 use Rattle.network.specs.declared.Network.{Network}
 use Rattle.network.proofs.Network as N
 use Rattle.network.proofs.Network.Laws as N′
@@ -61,7 +58,8 @@ use Rattle.script.specs.Script.{readAt}
 use Rattle.task.specs.declared.Task.{Task}
 use Rattle.task.specs.declared.Asked.{Asked}
 use Rattle.engine.specs.declared.printing.Kept.{Kept}
-use Rattle.engine.specs.declared.printing.Progress.{Progress}
+use Rattle.progress.specs.declared.Progress.{Progress}
+use Rattle.progress.specs.Leaving.{Leaves}
 use Rattle.engine.specs.Outcomes.{reported}
 use Rattle.engine.specs.Computed.{doneOn, Allowed}
 use Rattle.task.specs.Tasks.{Asks}
@@ -69,12 +67,12 @@ use Rattle.task.proofs.Task.Laws as task-laws
 use Rattle.task.proofs.Asked as As
 use Rattle.task.proofs.Asked.Laws as As′
 use Rattle.engine.proofs.printing.Kept as K
-use Rattle.engine.proofs.printing.Progress as P
-use Rattle.engine.proofs.printing.Progress.Laws as P′
+use Rattle.progress.proofs.Progress as P
+use Rattle.progress.proofs.Progress.Laws as P′
 use Rattle.ruling.proofs.Values.{IsOf, a-report, report-typed}
 use Rattle.engine.proofs.TaskValues.{a-task, task-typed}
 use Rattle.engine.proofs.TaskLaws.{Reports}
-use Rattle.engine.proofs.StepOfScript.{State, MayStep, Stepped, allowed, Left, Done, does}
+use Rattle.engine.proofs.StepOfScript.{State, MayStep, Stepped, allowed, Done, does, leaves-so}
 use Rattle.engine.proofs.printing.KeptRows.{Text, progressVal, lies, Shell, network-out, network-in}
 use Rattle.task.proofs.ask as ask
 use Rattle.task.proofs.ask.Symbol as ask-def
@@ -84,10 +82,10 @@ use Rattle.engine.proofs.in_place.perform as perform
 use Rattle.engine.proofs.in_place.perform.Symbol as perform-def
 use Rattle.engine.proofs.in_place.perform.Symbol.{name as #engine·in-place·perform}
 use Rattle.engine.proofs.in_place.perform.Met as perform-thm
-use Rattle.engine.proofs.printing.leave_record as leave
-use Rattle.engine.proofs.printing.leave_record.Symbol as leave-def
-use Rattle.engine.proofs.printing.leave_record.Symbol.{name as #engine·printing·leave-record}
-use Rattle.engine.proofs.printing.leave_record.Met as leave-thm
+use Rattle.progress.proofs.leave_record as leave
+use Rattle.progress.proofs.leave_record.Symbol as leave-def
+use Rattle.progress.proofs.leave_record.Symbol.{name as #progress·leave-record}
+use Rattle.progress.proofs.leave_record.Met as leave-thm
 use Rattle.engine.proofs.printing.step.Key.{name as #engine·printing·step}
 use Rattle.engine.proofs.printing.step as this
 use Rattle.engine.proofs.printing.step.Statement as stated
@@ -103,10 +101,6 @@ stayed = (
 
 abbrev askedVal : Asked → Val
 askedVal = LL.val As.the-type As′.the-laws
-
--- what `leave_record` asks
-abbrev MayLeave : Progress → Report → Type 0
-MayLeave p report = (p .used + 40 ≤ 1_048_576) × (p .ordinal < 100_000) × (p .posted < 100_000_000) × (report .posted ≤ 384) × ((r : Reason) → answered (report .answer) ≡ no r → report .posted ≡ 0)
 
 module _ {M : Type 1} (𝓤 : URA M) (H : Heap 𝓤) (A : Atoms 𝓤) (at-mem : Memory → SProp 𝓤) (run : Routine → Fun 𝓤) where
   -- the contracts that the proof cites
@@ -194,21 +188,23 @@ module _ {M : Type 1} (𝓤 : URA M) (H : Heap 𝓤) (A : Atoms 𝓤) (W : Given
     abbrev to-leave : Leave 𝓤 H A at-mem run .Ghost
     to-leave = ((κs .1 .1, qs .1 .1, tt, (t, (p, (after, (report, tt)))), (ptr-vals t, (progressVal p ∷ [], (vint w64 after ∷ [], (word a-report report ∷ [], tt))))), tt)
 
-    goes-leave : MayLeave p report → Is P.the-row p (progressVal p ∷ []) → Is usize after (vint w64 after ∷ []) → IsOf a-report report
+    goes-leave : Is P.the-row p (progressVal p ∷ []) → Is usize after (vint w64 after ∷ []) → IsOf a-report report
         → ent 𝓤 (sep 𝓤 (sem 𝓤 H A Writes) (mean 𝓤 H A Token)) (Leave 𝓤 H A at-mem run .pre to-leave)
-    goes-leave may is-p is-after is-report =
-        qed W (‵ Writes ∷ Token ∷ []) ∵ says ! may $ move ! (1 ∷ []) $ frame ! $
+    goes-leave is-p is-after is-report =
+        qed W (‵ Writes ∷ Token ∷ []) ∵
         nothing ! $ had ! Report.the-type Report′.the-plain report _ is-report $ fjoin ! $ owned ! usize (Is usize) (uint-makes 𝓤 H A W w64) after _ is-after $ fjoin ! $
-        had ! P.the-type P′.the-plain p _ is-p $ fjoin ! $ move ! (1 ∷ 0 ∷ []) $ fjoin ! $ done !
+        had ! P.the-type P′.the-plain p _ is-p $ fjoin ! $ move ! (1 ∷ 0 ∷ []) $ fjoin ! $
+        -- [what it owns; the token]
+        move ! (1 ∷ 0 ∷ []) $ join ! $ frame ! $ nothing ! $ done !
 
   -- ---- the exit: the borrow is closed at the next network, and `leave_record` has said the text's last value
-  abbrev Leaves : Network → List ℕ → List (Item 𝓤)
-  Leaves m z = ‵ (fobs (x .name) (K.the-row .coded .code (record { network = m }))) ∷ ‵ (fbor (κs .0) (Body (mem K.the-row) b o (x .name))) ∷ ‵ (flft (κs .0) (qs .0))
+  abbrev Remains : Network → List ℕ → List (Item 𝓤)
+  Remains m z = ‵ (fobs (x .name) (K.the-row .coded .code (record { network = m }))) ∷ ‵ (fbor (κs .0) (Body (mem K.the-row) b o (x .name))) ∷ ‵ (flft (κs .0) (qs .0))
       ∷ ‵ (fres (t .name) (Text .coded .code z)) ∷ Token ∷ ‵ (flft κ₁ q₁) ∷ []
 
-  exits : (m : Network) (r : Progress) (z : List ℕ) (w : Val) → Stepped script from-here (to-there m r z) → Is P.the-row r (w ∷ []) → ent 𝓤 (⋆ 𝓤 H A (Leaves m z)) (Post w)
+  exits : (m : Network) (r : Progress) (z : List ℕ) (w : Val) → Stepped script from-here (to-there m r z) → Is P.the-row r (w ∷ []) → ent 𝓤 (⋆ 𝓤 H A (Remains m z)) (Post w)
   exits m r z w e is =
-      qed W (Leaves m z) ∵
+      qed W (Remains m z) ∵
       suffices ! _ (ends-at 𝓤 H A this.ended stayed (this.clauses 𝓤 H A at-mem run) W ((κs, qs, tt, args, vals), tt) w r (record { network = m }, (tt, (z, (tt, tt)))) (tt, (tt, (tt, (tt, tt))))) $
       says ! e $ move ! (5 ∷ 4 ∷ []) $ join ! $ move ! (3 ∷ 0 ∷ []) $ join ! $ frame ! $
       -- [obs; the borrow; the text's last value]
@@ -217,7 +213,7 @@ module _ {M : Type 1} (𝓤 : URA M) (H : Heap 𝓤) (A : Atoms 𝓤) (W : Given
 
   -- ---- the MIR
   module _ (𝓣 : Tables 𝓤 H) (known-ask : Triple 𝓤 (𝓣 .C #task·ask) (Ask 𝓤 H A at-mem run)) (known-perform : Triple 𝓤 (𝓣 .C #engine·in-place·perform) (Perform 𝓤 H A at-mem run))
-      (known-leave : Triple 𝓤 (𝓣 .C #engine·printing·leave-record) (Leave 𝓤 H A at-mem run)) (may : MayStep script from-here) (is-p : Is P.the-row p (progressVal p ∷ [])) where
+      (known-leave : Triple 𝓤 (𝓣 .C #progress·leave-record) (Leave 𝓤 H A at-mem run)) (may : MayStep script from-here) (is-p : Is P.the-row p (progressVal p ∷ [])) where
     -- over the places of its locals
     module _ (l₀ l₁ l₂ l₃ l₄ l₅ l₆ l₇ l₈ l₉ l₁₀ l₁₁ : ℕ) where
       abbrev number : Ty
@@ -269,10 +265,11 @@ module _ {M : Type 1} (𝓤 : URA M) (H : Heap 𝓤) (A : Atoms 𝓤) (W : Given
             sets ! 16 refl (addr ! (from ! (hop ! (look ! 8 refl) (stop !)))) (tt, tt) $
             -- `leave_record`
             move ! (3 ∷ 4 ∷ []) $
-            use2 W (raw (Leave 𝓤 H A at-mem run .pre (to-leave (a .after) report))) (goes-leave (a .after) report (may .2, may .3, may .4, did .few, did .quiet) is-p (fields .1 .0) is-report) $
+            use2 W (raw (Leave 𝓤 H A at-mem run .pre (to-leave (a .after) report))) (goes-leave (a .after) report is-p (fields .1 .0) is-report) $
             calls-at ! (fmOf 𝓤 H (W .laws) 𝓣) (Leave 𝓤 H A at-mem run) known-leave (to-leave (a .after) report)
             (and-then ! (var ! 15 refl) (and-then ! (var ! 8 refl) (and-then ! (var ! 13 refl) (and-then ! (var ! 12 refl) (no-more !))))) (λ w.
-            returned ! tt leave.ended (leave.clauses 𝓤 H A at-mem run) (to-leave (a .after) report) w (λ r zs. Left p r (a .after) (reported m report) (t .now) (zs .0)) (λ r zs. id⊢ 𝓤 _) (λ r zs left.
+            returned ! tt leave.ended (leave.clauses 𝓤 H A at-mem run) (to-leave (a .after) report) w (λ r zs. Leaves p (a .after) report (t .now) r (zs .0)) (λ r zs. id⊢ 𝓤 _) (λ r zs leaves.
+            let left = leaves-so p r (a .after) m report (t .now) (zs .0) (may .2, may .3, may .4) (did .few) (did .quiet) leaves in
             fsplit ! $ move ! (1 ∷ []) $ drop ! $ move ! (2 ∷ []) $ seen ! P.the-row r (w ∷ []) (λ is-r.
             -- [the text's last value; its token; the network; the script's token; what is around the network; _0; _1; …; _11; …]
             lands-in ! 5 refl (typed P.the-type P′.the-laws r _ is-r 𝓤 H A W) $
@@ -331,7 +328,7 @@ module _ {M : Type 1} (𝓤 : URA M) (H : Heap 𝓤) (A : Atoms 𝓤) (W : Given
 
 module _ {M : Type 1} (𝓤 : URA M) (H : Heap 𝓤) (A : Atoms 𝓤) (W : Given 𝓤 H A) (at-mem : Memory → SProp 𝓤) (run : Routine → Fun 𝓤) (𝓣 : Tables 𝓤 H) (known-ask : Triple 𝓤 (𝓣 .C #task·ask)
     (Ask 𝓤 H A at-mem run))
-    (known-perform : Triple 𝓤 (𝓣 .C #engine·in-place·perform) (Perform 𝓤 H A at-mem run)) (known-leave : Triple 𝓤 (𝓣 .C #engine·printing·leave-record) (Leave 𝓤 H A at-mem run)) where
+    (known-perform : Triple 𝓤 (𝓣 .C #engine·in-place·perform) (Perform 𝓤 H A at-mem run)) (known-leave : Triple 𝓤 (𝓣 .C #progress·leave-record) (Leave 𝓤 H A at-mem run)) where
   step-walks : Walks 𝓤 H A this.ended stayed (WpFn 𝓤 H (𝓣 .C) (𝓣 .Λ) code.function) (this.clauses 𝓤 H A at-mem run)
   step-walks = walked 𝓤 H A this.ended stayed (this.clauses 𝓤 H A at-mem run) (WpFn 𝓤 H (𝓣 .C) (𝓣 .Λ) code.function)
       (λ κs. (ptr-vals, (slice-vals, (ptr-vals, (LL.vals P.the-type P′.the-laws, tt)))))
@@ -359,4 +356,4 @@ step-spec 𝓤 H 𝓜 𝓖 𝓡 =
     (step-meets 𝓤 H (𝓖 .A) (givenOf 𝓤 H 𝓜 𝓖) (𝓜 .mem) (𝓡 .run) (tablesOf 𝓤 H 𝓜 (tables 𝓤 H 𝓜 𝓡 code.env))
     (cited 𝓤 H (Ask 𝓤 H (𝓖 .A) (𝓜 .mem) (𝓡 .run)) 𝓜 𝓡 code.env #task·ask ask-def.routine code.calls-task·ask (ask-thm.met 𝓤 H 𝓜 𝓖 𝓡))
     (cited 𝓤 H (Perform 𝓤 H (𝓖 .A) (𝓜 .mem) (𝓡 .run)) 𝓜 𝓡 code.env #engine·in-place·perform perform-def.routine code.calls-engine·in-place·perform (perform-thm.met 𝓤 H 𝓜 𝓖 𝓡))
-    (cited 𝓤 H (Leave 𝓤 H (𝓖 .A) (𝓜 .mem) (𝓡 .run)) 𝓜 𝓡 code.env #engine·printing·leave-record leave-def.routine code.calls-engine·printing·leave-record (leave-thm.met 𝓤 H 𝓜 𝓖 𝓡)))
+    (cited 𝓤 H (Leave 𝓤 H (𝓖 .A) (𝓜 .mem) (𝓡 .run)) 𝓜 𝓡 code.env #progress·leave-record leave-def.routine code.calls-progress·leave-record (leave-thm.met 𝓤 H 𝓜 𝓖 𝓡)))

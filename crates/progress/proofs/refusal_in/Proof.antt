@@ -1,8 +1,8 @@
--- `engine::printing::refusal_in` meets its contract, case by case. Assumes nothing.
+-- `progress::refusal_in` meets its contract, case by case. Assumes nothing.
 use borrow.Author.Needs.{needs}
 use mathlib.Core.Path.{refl}
-use Rattle.engine.proofs.printing.refusal_in.Statement.{statement}
-use Rattle.engine.proofs.printing.refusal_in.Tie as tie
+use Rattle.progress.proofs.refusal_in.Statement.{statement}
+use Rattle.progress.proofs.refusal_in.Tie as tie
 
 pub refusal-in-spec : {M : Type 1} → statement M
 refusal-in-spec =
