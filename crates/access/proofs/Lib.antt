@@ -1,4 +1,3 @@
 pub mod Shift
-pub mod Searches
 pub mod Stores
 pub mod Room

@@ -1,4 +1,4 @@
-// How the arrays of a network are read and written, by value. No rule stands here: what a call's rules look at is read out (`Sight`, `Found`), and
+// How the arrays of a network are read and written, by value. No rule stands here: what a call's rules look at is read out (`Sight`, `Arrival`), and
 // what they decide is carried out (`Change`). Each public function takes any network and any numbers. The crate `stores` does the same where a
 // network lies, by the same definitions.
 use node::Node;
@@ -6,17 +6,11 @@ use parts::Message;
 use parts::Posts;
 
 mod by_value;
-mod search;
 
 pub use by_value::arrival as met;
 pub use by_value::committed;
 pub use by_value::fitting;
 pub use by_value::sight as seen;
-pub use search::found as searched;
-pub use search::has_other_key;
-pub use search::is_notice_to;
-pub use search::is_out;
-pub use search::least;
 
 // What a call leaves to be done in the arrays: nothing where it is refused; a node more; a node's step, with the messages that it posts; or the
 // same with the message at a place taken from the queue.
@@ -57,12 +51,4 @@ pub struct Arrival {
     pub waiting: u8,
     pub message: Message,
     pub node: Node,
-}
-
-// What only a search of an array tells: whether a node has the key that is declared, whether some node is not out, and whether a notice to a
-// node waits. What an order does not ask is false.
-pub struct Found {
-    pub taken: bool,
-    pub standing: bool,
-    pub notice: bool,
 }

@@ -23,8 +23,8 @@ use Rattle.protocol.specs.Answer.{answered}
 use Rattle.access.specs.declared.Spots.{Spots}
 use Rattle.access.specs.declared.Sight.{Sight}
 use Rattle.access.specs.declared.Arrival.{Arrival}
-use Rattle.access.specs.declared.Found.{Found}
 use Rattle.access.specs.Changes.{Written, nothing, adds, steps, delivers, written}
+use Rattle.searches.specs.declared.Found.{Found}
 use Rattle.decision.specs.declared.Decision.{Decision}
 
 -- ---- where an order looks

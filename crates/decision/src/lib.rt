@@ -14,7 +14,6 @@ ghost use Rattle.protocol.specs.Calls.{stepped};
 ghost use Rattle.decision.specs.Decisions.{spotsOf, decided, turnedAway, adding, stepping, delivering, afterStep, roomTests, declareDecision, createDecision, joinDecision, leaveDecision, orderDecision, deliveryDecision};
 use access::Arrival;
 use access::Change;
-use access::Found;
 use access::Sight;
 use access::Spots;
 use network::CAPACITY;
@@ -30,6 +29,7 @@ use protocol::Reply;
 use refusal::Check;
 use refusal::Refusal;
 use report::Report;
+use searches::Found;
 
 // What a call comes to: the change to be carried out, which is none where it is refused, and what is told.
 pub struct Decision {

@@ -41,12 +41,13 @@ use Rattle.network.proofs.Lengths.{Lengths}
 use Rattle.network.proofs.ArrayLaws.{formed, held-live}
 use Rattle.network.proofs.LiveLaws.{nodes-length, messages-length, node-live}
 use Rattle.access.specs.declared.Arrival.{Arrival}
-use Rattle.access.specs.declared.Found.{Found}
 use Rattle.access.specs.declared.Change.{Change}
 use Rattle.access.specs.Changes.{placed, added, closed, allPosted, written, committed}
-use Rattle.access.specs.Sights.{nodeIn, messageIn, sightOf, arrivalOf, least, keyIsTaken as keyIsTakenIn, someStands, noticeWaits as noticeWaitsIn}
+use Rattle.access.specs.Sights.{nodeIn, messageIn, sightOf, arrivalOf}
 use Rattle.access.proofs.Shift.{length-without}
 use Rattle.access.proofs.Stores.{added-held, closed-held, stepped-held}
+use Rattle.searches.specs.declared.Found.{Found}
+use Rattle.searches.specs.Searches.{least, keyIsTaken as keyIsTakenIn, someStands, noticeWaits as noticeWaitsIn}
 use Rattle.decision.specs.declared.Decision.{Decision}
 use Rattle.report.specs.declared.Report.{Report}
 use Rattle.decision.specs.Decisions.{Decided, decided as decidedBy, spotsOf, turnedAway, adding, stepping, delivering, afterStep, roomTests, unless, declareTests, createTests, joinStep, leaveTests, receiveStep, deliverTests}

@@ -25,7 +25,8 @@ use Rattle.protocol.specs.State.{queueLimit, isAckTo, isInserted}
 use Rattle.protocol.specs.Questions.{Walk, found, lost}
 use Rattle.network.specs.declared.Network.{Network}
 use Rattle.network.specs.Arrays.{vacantNode}
-use Rattle.access.specs.Sights.{nodeIn, least}
+use Rattle.access.specs.Sights.{nodeIn}
+use Rattle.searches.specs.Searches.{least}
 use Rattle.members.specs.Members.{ackWaits, memberIn, wordOf, walkAt, walkFrom}
 
 -- ---- within the arrays

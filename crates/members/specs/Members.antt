@@ -20,7 +20,8 @@ use Rattle.node.specs.Shape.{capacity}
 use Rattle.protocol.specs.State.{queueLimit, isAckTo, isInserted}
 use Rattle.protocol.specs.Questions.{Walk, found, lost, walked}
 use Rattle.network.specs.declared.Network.{Network}
-use Rattle.access.specs.Sights.{nodeIn, least}
+use Rattle.access.specs.Sights.{nodeIn}
+use Rattle.searches.specs.Searches.{least}
 
 -- ---- who is inserted
 abbrev pub ackWaits : Network → ℕ → Bool

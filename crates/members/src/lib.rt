@@ -8,7 +8,7 @@ ghost use Rattle.truth.specs.Tests.{any};
 ghost use Rattle.protocol.specs.State.{isAckTo, isInserted};
 ghost use Rattle.protocol.specs.Answer.{answered};
 ghost use Rattle.protocol.specs.Questions.{walked};
-ghost use Rattle.access.specs.Sights.{least};
+ghost use Rattle.searches.specs.Searches.{least};
 ghost use mathlib.Core.Bool.{cond};
 ghost use lib.Dec.{ltb};
 ghost use Rattle.refusal.specs.Code.{reason, plain};

@@ -9,8 +9,9 @@ use Rattle.network.specs.declared.Network.{Network}
 use Rattle.access.specs.declared.Spots.{Spots}
 use Rattle.access.specs.declared.Sight.{Sight}
 use Rattle.access.specs.declared.Arrival.{Arrival}
-use Rattle.access.specs.declared.Found.{Found}
-use Rattle.access.specs.Sights.{sightOf, arrivalOf, foundOf}
+use Rattle.access.specs.Sights.{sightOf, arrivalOf}
+use Rattle.searches.specs.declared.Found.{Found}
+use Rattle.searches.specs.Searches.{foundOf}
 use Rattle.decision.specs.Decisions.{Decided, spotsOf, orderDecision, deliveryDecision}
 use Rattle.ruling.specs.Rulings.{decisionOn}
 

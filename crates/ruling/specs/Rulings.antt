@@ -2,7 +2,8 @@
 use Rattle.protocol.specs.declared.Call.{Call}
 use Rattle.protocol.specs.declared.Call.the-variants.{Order, Deliver}
 use Rattle.network.specs.declared.Network.{Network}
-use Rattle.access.specs.Sights.{sightOf, arrivalOf, foundOf}
+use Rattle.access.specs.Sights.{sightOf, arrivalOf}
+use Rattle.searches.specs.Searches.{foundOf}
 use Rattle.decision.specs.Decisions.{Decided, spotsOf, orderDecision, deliveryDecision}
 
 unfoldable pub decisionOn : Network → Call → Decided

@@ -39,7 +39,6 @@ use Rattle.network.proofs.Walking.{typed}
 use Rattle.access.specs.declared.Spots.{Spots}
 use Rattle.access.specs.declared.Sight.{Sight}
 use Rattle.access.specs.declared.Arrival.{Arrival}
-use Rattle.access.specs.declared.Found.{Found}
 use Rattle.access.specs.Sights.{nodeIn, messageIn, sightOf, arrivalOf}
 use Rattle.access.proofs.Spots as spots
 use Rattle.access.proofs.Spots.Laws as spots-laws
@@ -47,11 +46,12 @@ use Rattle.access.proofs.Sight as sight
 use Rattle.access.proofs.Sight.Laws as sight-laws
 use Rattle.access.proofs.Arrival as arrival
 use Rattle.access.proofs.Arrival.Laws as arrival-laws
-use Rattle.access.proofs.Found as found
-use Rattle.access.proofs.Found.Laws as found-laws
+use Rattle.searches.specs.declared.Found.{Found}
+use Rattle.searches.proofs.Found as found
+use Rattle.searches.proofs.Found.Laws as found-laws
 use Rattle.stores.proofs.Data.{Data, word, of-struct, of-enum}
 use Rattle.stores.proofs.Inside.{Shows}
-use Rattle.access.proofs.Searches.{told}
+use Rattle.searches.proofs.Searches.{told}
 use Rattle.stores.proofs.Places.{nodeVal, messageVal, NodeIs, MessageIs, Known, lies, node-is, node-shows, message-is, message-shows}
 
 -- ---- the types, and machine values

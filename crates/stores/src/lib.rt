@@ -1,14 +1,14 @@
-// The arrays of a network where they lie, behind a reference: what the crate `access` does by value, by the same definitions, with no array copied.
+// The arrays of a network where they lie, behind a reference: what the crates `access` and `searches` do by value, by the same definitions, with no array copied.
 // Each function is walked by hand, since the borrow checker does not cover a reference to a struct.
 ghost use mathlib.Core.Path.{_≡_};
 ghost use Prim.Native.Nat.{_+_, _<_, _≤_};
 ghost use lib.ListN.{length};
 ghost use Rattle.parts.specs.Posts.{posted as listed};
 ghost use Rattle.access.specs.Changes.{placed, added, closed, allPosted, written, committed};
-ghost use Rattle.access.specs.Sights.{sightOf, arrivalOf, keyIsTaken, someStands, noticeWaits, foundOf};
+ghost use Rattle.access.specs.Sights.{sightOf, arrivalOf};
+ghost use Rattle.searches.specs.Searches.{keyIsTaken, someStands, noticeWaits, foundOf};
 use access::Arrival;
 use access::Change;
-use access::Found;
 use access::Sight;
 use access::Spots;
 use network::CAPACITY;
@@ -18,6 +18,7 @@ use network::VACANT_MESSAGE;
 use node::Node;
 use parts::Posts;
 use protocol::Order;
+use searches::Found;
 
 fn place_node(network: &mut Network, number: u8, node: Node)
     requires { ⌜ number < 32 ⌝ }
@@ -144,12 +145,12 @@ fn key_is_taken(network: &mut Network, key: u32) -> bool
     ensures { λ r. ⌜ (r ≡ keyIsTaken (now (network .entry)) key) × (now (network .exit) ≡ now (network .entry)) ⌝ }
 {
     let count = network.count;
-    let end = access::least(count, CAPACITY);
+    let end = searches::least(count, CAPACITY);
     let mut new = true;
     let mut i: usize = 0;
     while i < end {
         let node = network.nodes[i];
-        new = new & access::has_other_key(node, key);
+        new = new & searches::has_other_key(node, key);
         i += 1;
     }
     !new
@@ -160,12 +161,12 @@ fn some_stands(network: &mut Network) -> bool
     ensures { λ r. ⌜ (r ≡ someStands (now (network .entry))) × (now (network .exit) ≡ now (network .entry)) ⌝ }
 {
     let count = network.count;
-    let end = access::least(count, CAPACITY);
+    let end = searches::least(count, CAPACITY);
     let mut out = true;
     let mut i: usize = 0;
     while i < end {
         let node = network.nodes[i];
-        out = out & access::is_out(node);
+        out = out & searches::is_out(node);
         i += 1;
     }
     !out
@@ -175,12 +176,12 @@ fn notice_waits(network: &mut Network, node: u8) -> bool
     ensures { λ r. ⌜ (r ≡ noticeWaits (now (network .entry)) node) × (now (network .exit) ≡ now (network .entry)) ⌝ }
 {
     let waiting = network.waiting;
-    let end = access::least(waiting, QUEUE_LIMIT);
+    let end = searches::least(waiting, QUEUE_LIMIT);
     let mut found = false;
     let mut i: usize = 0;
     while i < end {
         let message = network.messages[i];
-        found = found | access::is_notice_to(message, node);
+        found = found | searches::is_notice_to(message, node);
         i += 1;
     }
     found

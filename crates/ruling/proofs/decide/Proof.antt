@@ -8,7 +8,7 @@ returns : tie.Need-returns
 returns c =
     let looked = c .before .before in
     let called = looked .before .before .before in
-    order-decided _ _ _ _ _ _ _ (called .call .given .1) (looked .before .spots .ensures) (looked .sight .ensures) (c .before .found .ensures) (c .decide-order .ensures)
+    order-decided _ _ _ _ _ _ _ (called .call .given .1) (looked .before .spots .ensures) (looked .sight .ensures) (c .before .searched .ensures) (c .decide-order .ensures)
 
 returns-2 : tie.Need-returns-2
 returns-2 c =

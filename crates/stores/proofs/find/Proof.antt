@@ -35,9 +35,9 @@ use Rattle.protocol.proofs.Order as order
 use Rattle.protocol.proofs.Order.Laws as order-laws
 use Rattle.network.specs.declared.Network.{Network}
 use Rattle.network.proofs.Network as net
-use Rattle.access.specs.declared.Found.{Found}
-use Rattle.access.specs.Sights.{keyIsTaken, someStands, noticeWaits, foundOf}
-use Rattle.access.proofs.Found.Laws as found-laws
+use Rattle.searches.specs.declared.Found.{Found}
+use Rattle.searches.specs.Searches.{keyIsTaken, someStands, noticeWaits, foundOf}
+use Rattle.searches.proofs.Found.Laws as found-laws
 use Rattle.stores.proofs.Locals.{var, sets, lands-in}
 use Rattle.stores.proofs.Ending.{frees-all}
 use Rattle.stores.proofs.Variants.{tag-of, field-of}
@@ -46,7 +46,7 @@ use Rattle.stores.proofs.Data.{a-number, a-byte, a-flag, word}
 use Rattle.stores.proofs.Frame.{Held, Gives, gives, framed}
 use Rattle.stores.proofs.Places.{lies}
 use Rattle.stores.proofs.Lending.{Lends, lends, calls-giving}
-use Rattle.access.proofs.Searches.{told, declare-finds, create-finds, join-finds, leave-finds}
+use Rattle.searches.proofs.Searches.{told, declare-finds, create-finds, join-finds, leave-finds}
 use Rattle.stores.proofs.Reading.{a-find, an-order, OrderIs, FoundIs, told-is, found-typed, by-order}
 use Rattle.stores.proofs.key_is_taken as key-is-taken
 use Rattle.stores.proofs.key_is_taken.Symbol as key-is-taken-def

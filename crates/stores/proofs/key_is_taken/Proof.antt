@@ -33,7 +33,7 @@ use borrow.Author.Tests.{ltb-true, ltb-false}
 use Rattle.network.specs.declared.Network.{Network}
 use Rattle.network.proofs.Network as net
 use Rattle.network.proofs.Walking.{by-cases}
-use Rattle.access.specs.Sights.{least as leastOf, keyIsTaken}
+use Rattle.searches.specs.Searches.{least as leastOf, keyIsTaken}
 use Rattle.stores.proofs.Ending.{frees-all}
 use Rattle.stores.proofs.Locals.{var, sets, resets, lands-in, lands-again, offsets}
 use Rattle.stores.proofs.Straight.{loops-on, turns-on, leaves-while}
@@ -42,16 +42,16 @@ use Rattle.stores.proofs.Data.{a-number, a-byte, a-flag}
 use Rattle.stores.proofs.Calling.{calls-plain}
 use Rattle.stores.proofs.Frame.{Held, Gives, gives, framed}
 use Rattle.stores.proofs.Places.{a-node, Known, known, lies, node-typed, count-shows}
-use Rattle.access.proofs.Searches.{within, others, others-none, others-more, others-all}
+use Rattle.searches.proofs.Searches.{within, others, others-none, others-more, others-all}
 use Rattle.stores.proofs.Searching.{at-node, node-there, Inv, into}
-use Rattle.access.proofs.least as least
-use Rattle.access.proofs.least.Symbol as least-def
-use Rattle.access.proofs.least.Symbol.{name as #access·least}
-use Rattle.access.proofs.least.Met as least-met
-use Rattle.access.proofs.has_other_key as has-other-key
-use Rattle.access.proofs.has_other_key.Symbol as has-other-key-def
-use Rattle.access.proofs.has_other_key.Symbol.{name as #access·has-other-key}
-use Rattle.access.proofs.has_other_key.Met as has-other-key-met
+use Rattle.searches.proofs.least as least
+use Rattle.searches.proofs.least.Symbol as least-def
+use Rattle.searches.proofs.least.Symbol.{name as #searches·least}
+use Rattle.searches.proofs.least.Met as least-met
+use Rattle.searches.proofs.has_other_key as has-other-key
+use Rattle.searches.proofs.has_other_key.Symbol as has-other-key-def
+use Rattle.searches.proofs.has_other_key.Symbol.{name as #searches·has-other-key}
+use Rattle.searches.proofs.has_other_key.Met as has-other-key-met
 use Rattle.stores.proofs.key_is_taken.Code.Mir as steps
 use Rattle.stores.proofs.key_is_taken as this
 use Rattle.stores.proofs.key_is_taken.Key.{name as #stores·key-is-taken}
@@ -68,8 +68,8 @@ module _ {M : Type 1} (𝓤 : URA M) (H : Heap 𝓤) (A : Atoms 𝓤) (at-mem : 
 
 -- ---- the walk
 module _ {M : Type 1} (𝓤 : URA M) (H : Heap 𝓤) (A : Atoms 𝓤) (W : Given 𝓤 H A) (at-mem : Memory → SProp 𝓤) (run : Routine → Fun 𝓤) (𝓣 : Tables 𝓤 H)
-    (known-least : Triple 𝓤 (𝓣 .C #access·least) (Least 𝓤 H A at-mem run))
-    (known-test : Triple 𝓤 (𝓣 .C #access·has-other-key) (Test 𝓤 H A at-mem run))
+    (known-least : Triple 𝓤 (𝓣 .C #searches·least) (Least 𝓤 H A at-mem run))
+    (known-test : Triple 𝓤 (𝓣 .C #searches·has-other-key) (Test 𝓤 H A at-mem run))
     (κ : Lft) (q : Share) (b o : ℕ) (γ : GName) (n : Network) (key : ℕ) where
   abbrev Φ : Bool → Network → Type 0
   Φ r m = (r ≡ keyIsTaken n key) × (m ≡ n)
@@ -136,8 +136,8 @@ module _ {M : Type 1} (𝓤 : URA M) (H : Heap 𝓤) (A : Atoms 𝓤) (W : Given
       by ! (gives 𝓤 H A (a-flag .row) Φ κ q b o γ (vbool (not (others n key i))) (not (others n key i)) n refl (others-all n key (all ∙ end-says), refl)))))) (end - 0))))))))))))))))
 
 module _ {M : Type 1} (𝓤 : URA M) (H : Heap 𝓤) (A : Atoms 𝓤) (W : Given 𝓤 H A) (at-mem : Memory → SProp 𝓤) (run : Routine → Fun 𝓤) (𝓣 : Tables 𝓤 H)
-    (known-least : Triple 𝓤 (𝓣 .C #access·least) (Least 𝓤 H A at-mem run))
-    (known-test : Triple 𝓤 (𝓣 .C #access·has-other-key) (Test 𝓤 H A at-mem run)) where
+    (known-least : Triple 𝓤 (𝓣 .C #searches·least) (Least 𝓤 H A at-mem run))
+    (known-test : Triple 𝓤 (𝓣 .C #searches·has-other-key) (Test 𝓤 H A at-mem run)) where
   meets : Meets 𝓤 H A this.signature (WpFn 𝓤 H (𝓣 .C) (𝓣 .Λ) code.function) (this.spec 𝓤 H A at-mem run)
   meets = framed 𝓤 H A W (a-number w32 ∷ []) a-flag (this.clauses 𝓤 H A at-mem run) (λ κs n a. Unit {0}) (λ κs n a r m. (r ≡ keyIsTaken n (a .0)) × (m ≡ n))
       (λ κs x a g. factI 𝓤 (Unit {0}) _ tt) (λ κs x a g r m. id⊢ 𝓤 _) (WpFn 𝓤 H (𝓣 .C) (𝓣 .Λ) code.function) (WpFn-mono 𝓤 H (W .laws) 𝓣 code.function)
@@ -149,5 +149,5 @@ key-is-taken-spec 𝓤 H 𝓜 𝓖 𝓡 =
     entered 𝓤 H (tripleOf 𝓤 H (𝓖 .A) this.signature (this.spec 𝓤 H (𝓖 .A) (𝓜 .mem) (𝓡 .run)))
     (tables 𝓤 H 𝓜 𝓡 code.env .C) (tables 𝓤 H 𝓜 𝓡 code.env .Λ) #stores·key-is-taken code.function (code.unfolded 𝓤 H 𝓜 𝓡)
     (meets 𝓤 H (𝓖 .A) (givenOf 𝓤 H 𝓜 𝓖) (𝓜 .mem) (𝓡 .run) (tablesOf 𝓤 H 𝓜 (tables 𝓤 H 𝓜 𝓡 code.env))
-    (cited 𝓤 H (Least 𝓤 H (𝓖 .A) (𝓜 .mem) (𝓡 .run)) 𝓜 𝓡 code.env #access·least least-def.routine code.calls-access·least (least-met.met 𝓤 H 𝓜 𝓖 𝓡))
-    (cited 𝓤 H (Test 𝓤 H (𝓖 .A) (𝓜 .mem) (𝓡 .run)) 𝓜 𝓡 code.env #access·has-other-key has-other-key-def.routine code.calls-access·has-other-key (has-other-key-met.met 𝓤 H 𝓜 𝓖 𝓡)))
+    (cited 𝓤 H (Least 𝓤 H (𝓖 .A) (𝓜 .mem) (𝓡 .run)) 𝓜 𝓡 code.env #searches·least least-def.routine code.calls-searches·least (least-met.met 𝓤 H 𝓜 𝓖 𝓡))
+    (cited 𝓤 H (Test 𝓤 H (𝓖 .A) (𝓜 .mem) (𝓡 .run)) 𝓜 𝓡 code.env #searches·has-other-key has-other-key-def.routine code.calls-searches·has-other-key (has-other-key-met.met 𝓤 H 𝓜 𝓖 𝓡)))

@@ -36,11 +36,12 @@ use Rattle.protocol.proofs.Call.Laws as call-laws
 use Rattle.network.specs.declared.Network.{Network}
 use Rattle.network.proofs.Network as net
 use Rattle.access.specs.declared.Spots.{Spots}
-use Rattle.access.specs.Sights.{sightOf, arrivalOf, foundOf}
+use Rattle.access.specs.Sights.{sightOf, arrivalOf}
 use Rattle.access.proofs.Spots.Laws as spots-laws
 use Rattle.access.proofs.Sight.Laws as sight-laws
 use Rattle.access.proofs.Arrival.Laws as arrival-laws
-use Rattle.access.proofs.Found.Laws as found-laws
+use Rattle.searches.specs.Searches.{foundOf}
+use Rattle.searches.proofs.Found.Laws as found-laws
 use Rattle.stores.proofs.Data.{a-byte, word}
 use Rattle.stores.proofs.Locals.{var, sets, lands-in}
 use Rattle.stores.proofs.Straight.{switch-to}

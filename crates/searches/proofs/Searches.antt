@@ -22,8 +22,8 @@ use Rattle.protocol.specs.declared.Order.the-variants.{Declare, Create, Join, L
 use Rattle.protocol.specs.State.{queueLimit, isNoticeTo}
 use Rattle.network.specs.declared.Network.{Network}
 use Rattle.network.specs.Arrays.{vacantNode, vacantMessage}
-use Rattle.access.specs.declared.Found.{Found}
-use Rattle.access.specs.Sights.{least, keyIsTaken, someStands, noticeWaits, foundOf}
+use Rattle.searches.specs.declared.Found.{Found}
+use Rattle.searches.specs.Searches.{least, keyIsTaken, someStands, noticeWaits, foundOf}
 
 -- so many are searched that the array has
 pub within : (n limit : ℕ) {r : ℕ} → r ≡ least n limit → r ≤ limit

@@ -1,4 +1,4 @@
--- `access::search::notice_waits` meets its contract: after i turns the flag says whether a notice is among the first i messages. The
+-- `searches::notice_waits` meets its contract: after i turns the flag says whether a notice is among the first i messages. The
 -- measure is what is left of them. Assumes nothing.
 use Prim.Native.Nat.{_≤_, _<_, _-_}
 use mathlib.Core.Path.{_≡_, refl, ap, _∙_}
@@ -11,8 +11,8 @@ use Rattle.truth.specs.Tests.{any}
 use Rattle.truth.proofs.TestLaws.{any-take}
 use Rattle.protocol.specs.State.{isNoticeTo}
 use Rattle.network.proofs.Places.{zeroMessage}
-use Rattle.access.proofs.search.notice_waits.Statement.{statement}
-use Rattle.access.proofs.search.notice_waits.Tie as tie
+use Rattle.searches.proofs.notice_waits.Statement.{statement}
+use Rattle.searches.proofs.notice_waits.Tie as tie
 
 abbrev Inv-loop : tie.InvT-loop
 Inv-loop waiting node messages found₀ i₀ found i = (i ≤ waiting) × (found ≡ any (isNoticeTo node) (take i messages))

@@ -1,4 +1,5 @@
-// What only a search of an array tells, for the orders that ask it: a declaration, a creation, a join.
+// What only a search of a network's arrays tells, for every network, by value: whether a node has a key, whether some node is not out, and whether a
+// notice to a node waits. Counts past the arrays are cut. The crate `stores` does the same where a network lies, by the same definitions and tests.
 ghost use mathlib.Core.Path.{_≡_};
 ghost use mathlib.Core.Bool.{not};
 ghost use Prim.Native.Nat.{_≤_};
@@ -8,14 +9,21 @@ ghost use Rattle.truth.specs.Tests.{everyBelow, any};
 ghost use Rattle.parts.specs.Tests.{isOut};
 ghost use Rattle.protocol.specs.State.{isNoticeTo};
 ghost use Rattle.network.specs.Arrays.{vacantNode};
-ghost use Rattle.access.specs.Sights.{least, foundOf};
-use crate::Found;
+ghost use Rattle.searches.specs.Searches.{least, foundOf};
 use network::CAPACITY;
 use network::Network;
 use network::QUEUE_LIMIT;
 use node::Node;
 use parts::Message;
 use protocol::Order;
+
+// What is found: whether a node has the key that is declared, whether some node is not out, and whether a notice to a node waits. What an order
+// does not ask is false.
+pub struct Found {
+    pub taken: bool,
+    pub standing: bool,
+    pub notice: bool,
+}
 
 // What each search asks of a node, or of a message.
 pub fn is_out(node: Node) -> bool
@@ -91,8 +99,8 @@ pub fn least(n: u8, limit: u8) -> usize
     }
 }
 
-// What an order's search finds.
-pub fn found(network: Network, order: Order) -> Found
+// What an order's search finds: a declaration, a creation and a join ask for one.
+pub fn searched(network: Network, order: Order) -> Found
     ensures { λ r. ⌜ r ≡ foundOf network order ⌝ }
 {
     let nodes = network.nodes;

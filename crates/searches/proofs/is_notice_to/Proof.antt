@@ -1,9 +1,9 @@
--- `access::search::is_notice_to` meets its contract: the kind's test and the receiver's. Assumes nothing.
+-- `searches::is_notice_to` meets its contract: the kind's test and the receiver's. Assumes nothing.
 use mathlib.Core.Bool.{_&&_}
 use borrow.Author.Needs.{needs}
 use lib.Dec.{eqb}
-use Rattle.access.proofs.search.is_notice_to.Statement.{statement}
-use Rattle.access.proofs.search.is_notice_to.Tie as tie
+use Rattle.searches.proofs.is_notice_to.Statement.{statement}
+use Rattle.searches.proofs.is_notice_to.Tie as tie
 
 returns : tie.Need-returns
 returns c =

@@ -1,4 +1,4 @@
--- `access::search::found` meets its contract, by the order: the counts are within the arrays (`within`), and each search says what it finds.
+-- `searches::searched` meets its contract, by the order: the counts are within the arrays (`within`), and each search says what it finds.
 -- Assumes nothing.
 use Prim.Native.Nat.{ℕ, _≤_}
 use mathlib.Core.Path.{_≡_}
@@ -12,10 +12,10 @@ use Rattle.parts.specs.Tests.{isOut}
 use Rattle.protocol.specs.State.{queueLimit, isNoticeTo}
 use Rattle.network.specs.declared.Network.{Network}
 use Rattle.network.specs.Arrays.{vacantNode}
-use Rattle.access.specs.Sights.{least, keyIsTaken, someStands, noticeWaits}
-use Rattle.access.proofs.Searches.{within}
-use Rattle.access.proofs.search.found.Statement.{statement}
-use Rattle.access.proofs.search.found.Tie as tie
+use Rattle.searches.specs.Searches.{least, keyIsTaken, someStands, noticeWaits}
+use Rattle.searches.proofs.Searches.{within}
+use Rattle.searches.proofs.searched.Statement.{statement}
+use Rattle.searches.proofs.searched.Tie as tie
 
 -- ---- what a search finds
 module _ (n : Network) {r : ℕ} {b : Bool} where
@@ -60,8 +60,8 @@ returns-3 c =
 returns-4 : tie.Need-returns-4
 returns-4 c = rw (c .enum-told .given .1)
 
-pub found-spec : {M : Type 1} → statement M
-found-spec =
+pub searched-spec : {M : Type 1} → statement M
+searched-spec =
     tie.close
     (tie.spec
     (λ c κs. search needs)

@@ -1,4 +1,4 @@
--- `access::search::all_out` meets its contract: after i turns the flag is the test of the first i nodes. The measure is what is left of
+-- `searches::all_out` meets its contract: after i turns the flag is the test of the first i nodes. The measure is what is left of
 -- them. Assumes nothing.
 use Prim.Native.Nat.{_≤_, _-_}
 use mathlib.Core.Path.{_≡_, refl, ap, _∙_}
@@ -11,8 +11,8 @@ use Rattle.truth.specs.Tests.{everyBelow}
 use Rattle.sequence.specs.Sequence.{firstSeq}
 use Rattle.parts.specs.Tests.{isOut}
 use Rattle.network.specs.Arrays.{vacantNode}
-use Rattle.access.proofs.search.all_out.Statement.{statement}
-use Rattle.access.proofs.search.all_out.Tie as tie
+use Rattle.searches.proofs.all_out.Statement.{statement}
+use Rattle.searches.proofs.all_out.Tie as tie
 
 abbrev Inv-loop : tie.InvT-loop
 Inv-loop count nodes ok₀ i₀ ok i = (i ≤ count) × (ok ≡ everyBelow i (λ u. isOut (getD nodes u vacantNode .status)))

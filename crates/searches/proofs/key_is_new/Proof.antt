@@ -1,4 +1,4 @@
--- `access::search::key_is_new` meets its contract: after i turns the flag is the test of the first i nodes. The measure is what is left of
+-- `searches::key_is_new` meets its contract: after i turns the flag is the test of the first i nodes. The measure is what is left of
 -- them. Assumes nothing.
 use Prim.Native.Nat.{_≤_, _-_}
 use mathlib.Core.Path.{_≡_, refl, ap, _∙_}
@@ -11,8 +11,8 @@ use lib.Dec.{eqb}
 use Rattle.truth.specs.Tests.{everyBelow}
 use Rattle.sequence.specs.Sequence.{firstSeq}
 use Rattle.network.specs.Arrays.{vacantNode}
-use Rattle.access.proofs.search.key_is_new.Statement.{statement}
-use Rattle.access.proofs.search.key_is_new.Tie as tie
+use Rattle.searches.proofs.key_is_new.Statement.{statement}
+use Rattle.searches.proofs.key_is_new.Tie as tie
 
 abbrev Inv-loop : tie.InvT-loop
 Inv-loop count key nodes ok₀ i₀ ok i = (i ≤ count) × (ok ≡ everyBelow i (λ u. not (eqb (getD nodes u vacantNode .key) key)))

@@ -1,7 +1,7 @@
--- `access::search::least` meets its contract: the branch says which of the two numbers is the lesser. Assumes nothing.
+-- `searches::least` meets its contract: the branch says which of the two numbers is the lesser. Assumes nothing.
 use borrow.Author.Tests.{le-leb, lt-leb}
-use Rattle.access.proofs.search.least.Statement.{statement}
-use Rattle.access.proofs.search.least.Tie as tie
+use Rattle.searches.proofs.least.Statement.{statement}
+use Rattle.searches.proofs.least.Tie as tie
 
 returns : tie.Need-returns
 returns c = rw (le-leb (c .before .args .n) (c .before .args .limit) (c .if1 .taken))
