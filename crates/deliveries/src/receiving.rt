@@ -51,10 +51,10 @@ pub fn receive(node: Node, me: u8, message: Message) -> Step
     ensures { λ r. ⌜ effect r ≡ receiveOf me node message ⌝ }
 {
     let kind = message.kind;
-    if let Check::Refuse(refusal) = check(node, me, message) {
-        return steps::refuse(node, refusal);
+    match check(node, me, message) {
+        Check::Refuse(refusal) => steps::refuse(node, refusal),
+        Check::Clear => act(node, me, message.sender, kind),
     }
-    act(node, me, message.sender, kind)
 }
 
 pub fn receive_set_r(

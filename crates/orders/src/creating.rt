@@ -39,8 +39,8 @@ fn created_as(node: Node, me: u8) -> Node
 pub fn create(node: Node, me: u8) -> Step
     ensures { λ r. ⌜ effect r ≡ createOf me node ⌝ }
 {
-    if let Check::Refuse(refusal) = check(node, me) {
-        return steps::refuse(node, refusal);
+    match check(node, me) {
+        Check::Refuse(refusal) => steps::refuse(node, refusal),
+        Check::Clear => steps::silent(created_as(node, me), Outcome::Created),
     }
-    steps::silent(created_as(node, me), Outcome::Created)
 }

@@ -63,13 +63,15 @@ fn join_request(node: Node, me: u8, left: Peer, right: Peer) -> Message
 pub fn join(node: Node, me: u8, left: Peer, right: Peer) -> Step
     ensures { λ r. ⌜ effect r ≡ joinOf me node left right ⌝ }
 {
-    if let Check::Refuse(refusal) = check(node, me, left, right) {
-        return steps::refuse(node, refusal);
+    match check(node, me, left, right) {
+        Check::Refuse(refusal) => steps::refuse(node, refusal),
+        Check::Clear => {
+            let request = join_request(node, me, left, right);
+            steps::posts_one(
+                joining_between(node, left, right),
+                request,
+                Outcome::Waiting,
+            )
+        }
     }
-    let request = join_request(node, me, left, right);
-    steps::posts_one(
-        joining_between(node, left, right),
-        request,
-        Outcome::Waiting,
-    )
 }

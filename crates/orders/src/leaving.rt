@@ -56,17 +56,20 @@ pub fn leave(node: Node, me: u8) -> Step
 {
     let right = node.right;
     let rseq = node.rseq;
-    if let Check::Refuse(refusal) = check(node, me) {
-        return steps::refuse(node, refusal);
+    match check(node, me) {
+        Check::Refuse(refusal) => steps::refuse(node, refusal),
+        Check::Clear => {
+            if right.links_to(me) {
+                steps::silent(steps::with_status(node, Status::Out), Outcome::LeftAlone)
+            } else {
+                let next = sequence::capped_next(rseq.number());
+                let request = leave_request(node, me, next);
+                steps::posts_one(
+                    steps::with_status(node, Status::Del),
+                    request,
+                    Outcome::Waiting,
+                )
+            }
+        }
     }
-    if right.links_to(me) {
-        return steps::silent(steps::with_status(node, Status::Out), Outcome::LeftAlone);
-    }
-    let next = sequence::capped_next(rseq.number());
-    let request = leave_request(node, me, next);
-    steps::posts_one(
-        steps::with_status(node, Status::Del),
-        request,
-        Outcome::Waiting,
-    )
 }
