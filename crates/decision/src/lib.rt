@@ -213,7 +213,7 @@ fn decide_create(number: u8, count: u8, node: Node, found: Found) -> Decision
             refusal::rule(found.notice, Refusal::NoticeWaiting, Check::Clear),
         ),
     );
-    settle(check, stepping(number, orders::create(node, number)))
+    settle(check, stepping(number, node.create(number)))
 }
 
 fn decide_join(number: u8, left: u8, right: u8, sight: Sight, notice: bool) -> Decision
@@ -223,7 +223,7 @@ fn decide_join(number: u8, left: u8, right: u8, sight: Sight, notice: bool) -> D
     let node = sight.node;
     let before = sight.left;
     let beyond = sight.right;
-    let step = orders::join(node, number, peer(left, before), peer(right, beyond));
+    let step = node.join(number, peer(left, before), peer(right, beyond));
     let verdict = step.verdict;
     let posts = step.posts;
     let rest = refusal::rule(
@@ -242,7 +242,7 @@ fn decide_join(number: u8, left: u8, right: u8, sight: Sight, notice: bool) -> D
 fn decide_leave(number: u8, count: u8, waiting: u8, node: Node) -> Decision
     ensures { λ r. ⌜ decided r ≡ leaveDecision number count waiting node ⌝ }
 {
-    let step = orders::leave(node, number);
+    let step = node.leave(number);
     let verdict = step.verdict;
     let posts = step.posts;
     let check = refusal::rule(
@@ -280,7 +280,7 @@ pub fn decide_delivery(place: u8, arrival: Arrival) -> Decision
     let node = arrival.node;
     let to = message.to;
     let kind = message.kind;
-    let step = deliveries::act(node, to, message.sender, kind);
+    let step = node.act(to, message.sender, kind);
     let posts = step.posts;
     let check = refusal::rule(
         !(place < waiting),

@@ -68,7 +68,7 @@ fn delivers(network: Network, place: u8) -> bool
     let node = arrival.node;
     let message = arrival.message;
     let kind = message.kind;
-    (network.waiting < QUEUE_LIMIT) | !deliveries::would_grant(node, message.sender, kind)
+    (network.waiting < QUEUE_LIMIT) | !node.would_grant(message.sender, kind)
 }
 
 // The lowest place where a delivery is not refused.

@@ -1,6 +1,6 @@
-// One node of the ring (paper 01's bench): its record, the test of its shape, what a step of it answers, and the setters that every step
-// is put together from. `specs/` says what a node does with an order or a message; the code of that is in the crates `orders` and
-// `deliveries`.
+// One node of the ring (paper 01's bench): its record, and what it does with an order or a message. Its parts and its messages are
+// those of the crate `parts`. Each action takes the node by value, with the node's own number, and hands back the node, at most two
+// messages and a verdict.
 use parts::Link;
 use parts::Posts;
 use parts::Seq;
@@ -8,8 +8,15 @@ use parts::Status;
 use refusal::Refusal;
 use sequence::Number;
 
-pub mod shape;
-pub mod steps;
+mod answers;
+mod create;
+mod join;
+mod leave;
+mod receive;
+mod set_l;
+mod set_r;
+mod shape;
+mod steps;
 
 pub struct Node {
     pub status: Status,

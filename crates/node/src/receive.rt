@@ -1,0 +1,116 @@
+// Receiving a message: any one by its kind, and one of each kind.
+ghost use mathlib.Core.Path.{_≡_};
+ghost use Rattle.refusal.specs.Rules.{first, checked};
+ghost use Rattle.node.specs.Actions.{effect, receiveRules, setR, setRAck, setRNak, setL, actOf, receiveOf};
+use crate::Node;
+use crate::Outcome;
+use crate::Step;
+use crate::answers;
+use crate::set_l;
+use crate::set_r;
+use crate::shape;
+use crate::steps;
+use parts::Kind;
+use parts::Message;
+use refusal::Check;
+use refusal::Refusal;
+use sequence::Number;
+
+fn check(node: Node, me: u8, message: Message) -> Check
+    ensures { λ r. ⌜ checked r ≡ first (receiveRules me node message) ⌝ }
+{
+    refusal::rule(
+        !(shape::is_well_formed(node, me) & shape::is_deliverable(message, me)),
+        Refusal::Malformed,
+        Check::Clear,
+    )
+}
+
+impl Node {
+    // What a node does with a message, by its kind: the action alone, with no test of node or message.
+    pub fn act(self, me: u8, sender: u8, kind: Kind) -> Step
+        ensures { λ r. ⌜ effect r ≡ actOf me self sender kind ⌝ }
+    {
+        let status = self.status;
+        if status.is_out() {
+            return steps::silent(self, Outcome::Dropped);
+        }
+        match kind {
+            Kind::SetR {
+                new,
+                expected,
+                number,
+            } => set_r::on_set_r(self, me, sender, new, expected, number),
+            Kind::SetRAck { number } => answers::on_set_r_ack(self, number),
+            Kind::SetRNak => answers::on_set_r_nak(self),
+            Kind::SetL { left, number } => set_l::on_set_l(self, left, number),
+        }
+    }
+
+    // Any message, by its kind.
+    pub fn receive(self, me: u8, message: Message) -> Step
+        ensures { λ r. ⌜ effect r ≡ receiveOf me self message ⌝ }
+    {
+        let kind = message.kind;
+        match check(self, me, message) {
+            Check::Refuse(refusal) => steps::refuse(self, refusal),
+            Check::Clear => self.act(me, message.sender, kind),
+        }
+    }
+
+    pub fn receive_set_r(
+        self,
+        me: u8,
+        sender: u8,
+        to: u8,
+        new: u8,
+        expected: u8,
+        number: Number,
+    ) -> Step
+        ensures { λ r. ⌜ effect r ≡ receiveOf me self (setR sender to new expected number) ⌝ }
+    {
+        let request = Message {
+            sender,
+            to,
+            kind: Kind::SetR {
+                new,
+                expected,
+                number,
+            },
+        };
+        self.receive(me, request)
+    }
+
+    pub fn receive_set_r_ack(self, me: u8, sender: u8, to: u8, number: Number) -> Step
+        ensures { λ r. ⌜ effect r ≡ receiveOf me self (setRAck sender to number) ⌝ }
+    {
+        let ack = Message {
+            sender,
+            to,
+            kind: Kind::SetRAck { number },
+        };
+        self.receive(me, ack)
+    }
+
+    pub fn receive_set_r_nak(self, me: u8, sender: u8, to: u8) -> Step
+        ensures { λ r. ⌜ effect r ≡ receiveOf me self (setRNak sender to) ⌝ }
+    {
+        let nak = Message {
+            sender,
+            to,
+            kind: Kind::SetRNak,
+        };
+        self.receive(me, nak)
+    }
+
+    pub fn receive_set_l(self, me: u8, sender: u8, to: u8, left: u8, number: Number) -> Step
+        ensures { λ r. ⌜ effect r ≡ receiveOf me self (setL sender to left number) ⌝ }
+    {
+        let notice = Message {
+            sender,
+            to,
+            kind: Kind::SetL { left, number },
+        };
+        self.receive(me, notice)
+    }
+}
