@@ -40,9 +40,9 @@ impl Node {
     pub fn create(self, me: u8) -> Step
         ensures { λ r. ⌜ effect r ≡ createOf me self ⌝ }
     {
-        match check(self, me) {
-            Check::Refuse(refusal) => steps::refuse(self, refusal),
-            Check::Clear => steps::silent(created_as(self, me), Outcome::Created),
+        if let Check::Refuse(refusal) = check(self, me) {
+            return steps::refuse(self, refusal);
         }
+        steps::silent(created_as(self, me), Outcome::Created)
     }
 }

@@ -64,16 +64,14 @@ impl Node {
     pub fn join(self, me: u8, left: Peer, right: Peer) -> Step
         ensures { λ r. ⌜ effect r ≡ joinOf me self left right ⌝ }
     {
-        match check(self, me, left, right) {
-            Check::Refuse(refusal) => steps::refuse(self, refusal),
-            Check::Clear => {
-                let request = join_request(self, me, left, right);
-                steps::posts_one(
-                    joining_between(self, left, right),
-                    request,
-                    Outcome::Waiting,
-                )
-            }
+        if let Check::Refuse(refusal) = check(self, me, left, right) {
+            return steps::refuse(self, refusal);
         }
+        let request = join_request(self, me, left, right);
+        steps::posts_one(
+            joining_between(self, left, right),
+            request,
+            Outcome::Waiting,
+        )
     }
 }

@@ -57,21 +57,18 @@ impl Node {
     {
         let right = self.right;
         let rseq = self.rseq;
-        match check(self, me) {
-            Check::Refuse(refusal) => steps::refuse(self, refusal),
-            Check::Clear => {
-                if right.links_to(me) {
-                    steps::silent(steps::with_status(self, Status::Out), Outcome::LeftAlone)
-                } else {
-                    let next = sequence::capped_next(rseq.number());
-                    let request = leave_request(self, me, next);
-                    steps::posts_one(
-                        steps::with_status(self, Status::Del),
-                        request,
-                        Outcome::Waiting,
-                    )
-                }
-            }
+        if let Check::Refuse(refusal) = check(self, me) {
+            return steps::refuse(self, refusal);
         }
+        if right.links_to(me) {
+            return steps::silent(steps::with_status(self, Status::Out), Outcome::LeftAlone);
+        }
+        let next = sequence::capped_next(rseq.number());
+        let request = leave_request(self, me, next);
+        steps::posts_one(
+            steps::with_status(self, Status::Del),
+            request,
+            Outcome::Waiting,
+        )
     }
 }

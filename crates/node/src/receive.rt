@@ -52,10 +52,10 @@ impl Node {
         ensures { λ r. ⌜ effect r ≡ receiveOf me self message ⌝ }
     {
         let kind = message.kind;
-        match check(self, me, message) {
-            Check::Refuse(refusal) => steps::refuse(self, refusal),
-            Check::Clear => self.act(me, message.sender, kind),
+        if let Check::Refuse(refusal) = check(self, me, message) {
+            return steps::refuse(self, refusal);
         }
+        self.act(me, message.sender, kind)
     }
 
     pub fn receive_set_r(

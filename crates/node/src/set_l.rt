@@ -12,11 +12,10 @@ pub fn on_set_l(node: Node, left: u8, number: Number) -> Step
     ensures { λ r. ⌜ effect r ≡ onSetL node left number ⌝ }
 {
     if sequence::is_newer(number, node.lseq) {
-        steps::silent(
+        return steps::silent(
             steps::with_left(node, Link::To(left), number),
             Outcome::LeftSet,
-        )
-    } else {
-        steps::silent(node, Outcome::LeftOld)
+        );
     }
+    steps::silent(node, Outcome::LeftOld)
 }

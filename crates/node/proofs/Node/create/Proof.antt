@@ -33,8 +33,8 @@ create-spec =
     (λ c κs. tt)
     (λ c. search needs)
     (λ c κs. tt)
+    returns
     (λ c. search needs)
     (λ c κs. tt)
     (λ c κs. tt)
-    returns
     returns-2)

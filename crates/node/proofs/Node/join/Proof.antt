@@ -32,9 +32,9 @@ join-spec =
     (λ c κs. tt)
     (λ c. search needs)
     (λ c κs. tt)
+    returns
     (λ c. search needs)
     (λ c κs. tt)
     (λ c κs. tt)
     (λ c κs. tt)
-    returns
     returns-2)

@@ -52,15 +52,15 @@ leave-spec =
     (λ c κs. tt)
     (λ c. search needs)
     (λ c κs. tt)
+    returns
     (λ c. search needs)
     (λ c κs. tt)
     (λ c κs. tt)
     (λ c κs. tt)
-    (λ c κs. tt)
-    (λ c κs. tt)
-    (λ c κs. tt)
-    (λ c κs. tt)
-    (λ c κs. tt)
-    returns
     returns-2
+    (λ c κs. tt)
+    (λ c κs. tt)
+    (λ c κs. tt)
+    (λ c κs. tt)
+    (λ c κs. tt)
     returns-3)

@@ -29,7 +29,7 @@ receive-spec =
     (λ c κs. tt)
     (λ c. search needs)
     (λ c κs. tt)
+    returns
     (λ c. search needs)
     (λ c κs. tt)
-    returns
     returns-2)

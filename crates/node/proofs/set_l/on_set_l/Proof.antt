@@ -15,6 +15,6 @@ on-set-l-spec =
     (λ c κs. tt)
     (λ c κs. tt)
     (λ c κs. tt)
-    (λ c κs. tt)
     returns
+    (λ c κs. tt)
     returns-2)
