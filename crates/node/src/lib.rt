@@ -19,12 +19,12 @@ mod shape;
 mod steps;
 
 pub struct Node {
-    pub status: Status,
     pub key: u32,
     pub left: Link,
     pub right: Link,
     pub lseq: Number,
     pub rseq: Seq,
+    pub status: Status,
 }
 
 // A neighbour that a join is handed: its number and its key.

@@ -155,36 +155,36 @@ module _ {M : Type 1} (𝓤 : URA M) (H : Heap 𝓤) (A : Atoms 𝓤) (W : Given
         rewrite ! 1 (λ (u : Val). ‵ (fat fullShare (lone (net.the-row .mir)) b o u)) (ap only (struct.tells net.the-type net-laws.the-laws n _ is)) refl $ move ! (1 ∷ 0 ∷ []) $ frame ! $
         assume ! (‵ (fat fullShare (lone (net.the-row .mir)) b o (networkVal n))) $ use2 W (‵ (lies b o n)) (part-in 𝓤 H A W net.the-row refl fullShare n b o (networkVal n)) $ done !))
 
-    pub node-opens : (i : ℕ) (x : Node) → i < 32 → NodeIs x → Opens 𝓤 H A (sem 𝓤 H A (lies b o n)) (lone (node.the-row .mir)) b (place 20 (o + 0) i) (nodeVal x) (sem 𝓤 H A (lies b o (placed n i x)))
+    pub node-opens : (i : ℕ) (x : Node) → i < 32 → NodeIs x → Opens 𝓤 H A (sem 𝓤 H A (lies b o n)) (lone (node.the-row .mir)) b (place 16 (o + 0) i) (nodeVal x) (sem 𝓤 H A (lies b o (placed n i x)))
     node-opens i x within is = elem-opens 𝓤 H A W net.the-row n (placed n i x) b o 0 node.the-row 32 (n .nodes) i x refl tt (struct.makes node.the-type node-laws.the-plain 𝓤 H A) within (nodeVal x) is
         (cut-records 𝓤 H A fullShare net.the-row node.the-type 32 0 n (placed n i x) (n .nodes) (set (n .nodes) i x) (b, o)
         (put-at 𝓤 H A W fullShare net.the-type net-laws.the-laws 0 0 refl refl (b, o) n (placed n i x) (net.struct .as-values n) (set (n .nodes) i x) refl refl))
 
     pub message-opens : (i : ℕ) (x : Message) → i < 64 → MessageIs x
-        → Opens 𝓤 H A (sem 𝓤 H A (lies b o n)) (lone (msg.the-row .mir)) b (place 8 (o + 642) i) (messageVal x) (sem 𝓤 H A (lies b o (withMessages n (set (n .messages) i x))))
-    message-opens i x within is = elem-opens 𝓤 H A W net.the-row n (withMessages n (set (n .messages) i x)) b o 642 msg.the-row 64 (n .messages) i x refl tt
+        → Opens 𝓤 H A (sem 𝓤 H A (lies b o n)) (lone (msg.the-row .mir)) b (place 8 (o + 514) i) (messageVal x) (sem 𝓤 H A (lies b o (withMessages n (set (n .messages) i x))))
+    message-opens i x within is = elem-opens 𝓤 H A W net.the-row n (withMessages n (set (n .messages) i x)) b o 514 msg.the-row 64 (n .messages) i x refl tt
         (struct.makes msg.the-type msg-laws.the-plain 𝓤 H A) within (messageVal x) is
-        (cut-records 𝓤 H A fullShare net.the-row msg.the-type 64 642 n (withMessages n (set (n .messages) i x)) (n .messages) (set (n .messages) i x) (b, o)
-        (put-at 𝓤 H A W fullShare net.the-type net-laws.the-laws 2 642 refl refl (b, o) n (withMessages n (set (n .messages) i x)) (net.struct .as-values n) (set (n .messages) i x) refl refl))
+        (cut-records 𝓤 H A fullShare net.the-row msg.the-type 64 514 n (withMessages n (set (n .messages) i x)) (n .messages) (set (n .messages) i x) (b, o)
+        (put-at 𝓤 H A W fullShare net.the-type net-laws.the-laws 2 514 refl refl (b, o) n (withMessages n (set (n .messages) i x)) (net.struct .as-values n) (set (n .messages) i x) refl refl))
 
-    pub count-opens : (c : ℕ) → c < 2 ^ 8 → Opens 𝓤 H A (sem 𝓤 H A (lies b o n)) (lone (u8 .mir)) b (o + 640) (vint w8 c) (sem 𝓤 H A (lies b o (withCount n c)))
-    count-opens c fits = field-opens 𝓤 H A W net.the-row n (withCount n c) b o 640 u8 refl (uint-makes 𝓤 H A W w8) (n .count) c (vint w8 c) (refl, fits)
-        (put-at 𝓤 H A W fullShare net.the-type net-laws.the-laws 1 640 refl refl (b, o) n (withCount n c) (net.struct .as-values n) c refl refl)
+    pub count-opens : (c : ℕ) → c < 2 ^ 8 → Opens 𝓤 H A (sem 𝓤 H A (lies b o n)) (lone (u8 .mir)) b (o + 512) (vint w8 c) (sem 𝓤 H A (lies b o (withCount n c)))
+    count-opens c fits = field-opens 𝓤 H A W net.the-row n (withCount n c) b o 512 u8 refl (uint-makes 𝓤 H A W w8) (n .count) c (vint w8 c) (refl, fits)
+        (put-at 𝓤 H A W fullShare net.the-type net-laws.the-laws 1 512 refl refl (b, o) n (withCount n c) (net.struct .as-values n) c refl refl)
 
-    pub waiting-opens : (w : ℕ) → w < 2 ^ 8 → Opens 𝓤 H A (sem 𝓤 H A (lies b o n)) (lone (u8 .mir)) b (o + 1154) (vint w8 w) (sem 𝓤 H A (lies b o (withWaiting n w)))
-    waiting-opens w fits = field-opens 𝓤 H A W net.the-row n (withWaiting n w) b o 1154 u8 refl (uint-makes 𝓤 H A W w8) (n .waiting) w (vint w8 w) (refl, fits)
-        (put-at 𝓤 H A W fullShare net.the-type net-laws.the-laws 3 1154 refl refl (b, o) n (withWaiting n w) (net.struct .as-values n) w refl refl)
+    pub waiting-opens : (w : ℕ) → w < 2 ^ 8 → Opens 𝓤 H A (sem 𝓤 H A (lies b o n)) (lone (u8 .mir)) b (o + 1026) (vint w8 w) (sem 𝓤 H A (lies b o (withWaiting n w)))
+    waiting-opens w fits = field-opens 𝓤 H A W net.the-row n (withWaiting n w) b o 1026 u8 refl (uint-makes 𝓤 H A W w8) (n .waiting) w (vint w8 w) (refl, fits)
+        (put-at 𝓤 H A W fullShare net.the-type net-laws.the-laws 3 1026 refl refl (b, o) n (withWaiting n w) (net.struct .as-values n) w refl refl)
 
-    messages-cut : Cut 𝓤 H A fullShare net.the-row (Array msg.the-row 64) 642 n n (n .messages) (n .messages) (b, o)
-    messages-cut = cut-records 𝓤 H A fullShare net.the-row msg.the-type 64 642 n n (n .messages) (n .messages) (b, o)
-        (look-at 𝓤 H A W fullShare net.the-type net-laws.the-laws 2 642 refl refl (b, o) n (net.struct .as-values n) refl)
+    messages-cut : Cut 𝓤 H A fullShare net.the-row (Array msg.the-row 64) 514 n n (n .messages) (n .messages) (b, o)
+    messages-cut = cut-records 𝓤 H A fullShare net.the-row msg.the-type 64 514 n n (n .messages) (n .messages) (b, o)
+        (look-at 𝓤 H A W fullShare net.the-type net-laws.the-laws 2 514 refl refl (b, o) n (net.struct .as-values n) refl)
 
     pub message-is : (i : ℕ) → i < 64 → ent 𝓤 (sem 𝓤 H A (lies b o n)) (guard 𝓤 (MessageIs (getD (n .messages) i vacantMessage)) (sem 𝓤 H A (lies b o n)))
-    message-is i within = elem-known 𝓤 H A W fullShare net.the-row n b o 642 msg.the-row 64 (n .messages) i vacantMessage messageVal (struct.tells msg.the-type msg-laws.the-laws) refl tt
+    message-is i within = elem-known 𝓤 H A W fullShare net.the-row n b o 514 msg.the-row 64 (n .messages) i vacantMessage messageVal (struct.tells msg.the-type msg-laws.the-laws) refl tt
         (struct.makes msg.the-type msg-laws.the-plain 𝓤 H A) within messages-cut
 
-    pub message-shows : (i : ℕ) → i < 64 → Shows 𝓤 H A (sem 𝓤 H A (lies b o n)) fullShare (lone (msg.the-row .mir)) b (place 8 (o + 642) i) (messageVal (getD (n .messages) i vacantMessage))
-    message-shows i within = elem-shows 𝓤 H A W fullShare net.the-row n b o 642 msg.the-row 64 (n .messages) i vacantMessage messageVal (struct.tells msg.the-type msg-laws.the-laws) refl tt
+    pub message-shows : (i : ℕ) → i < 64 → Shows 𝓤 H A (sem 𝓤 H A (lies b o n)) fullShare (lone (msg.the-row .mir)) b (place 8 (o + 514) i) (messageVal (getD (n .messages) i vacantMessage))
+    message-shows i within = elem-shows 𝓤 H A W fullShare net.the-row n b o 514 msg.the-row 64 (n .messages) i vacantMessage messageVal (struct.tells msg.the-type msg-laws.the-laws) refl tt
         (struct.makes msg.the-type msg-laws.the-plain 𝓤 H A) within messages-cut
 
     nodes-cut : Cut 𝓤 H A fullShare net.the-row (Array node.the-row 32) 0 n n (n .nodes) (n .nodes) (b, o)
@@ -195,17 +195,17 @@ module _ {M : Type 1} (𝓤 : URA M) (H : Heap 𝓤) (A : Atoms 𝓤) (W : Given
     node-is i within = elem-known 𝓤 H A W fullShare net.the-row n b o 0 node.the-row 32 (n .nodes) i vacantNode nodeVal (struct.tells node.the-type node-laws.the-laws) refl tt
         (struct.makes node.the-type node-laws.the-plain 𝓤 H A) within nodes-cut
 
-    pub node-shows : (i : ℕ) → i < 32 → Shows 𝓤 H A (sem 𝓤 H A (lies b o n)) fullShare (lone (node.the-row .mir)) b (place 20 (o + 0) i) (nodeVal (getD (n .nodes) i vacantNode))
+    pub node-shows : (i : ℕ) → i < 32 → Shows 𝓤 H A (sem 𝓤 H A (lies b o n)) fullShare (lone (node.the-row .mir)) b (place 16 (o + 0) i) (nodeVal (getD (n .nodes) i vacantNode))
     node-shows i within = elem-shows 𝓤 H A W fullShare net.the-row n b o 0 node.the-row 32 (n .nodes) i vacantNode nodeVal (struct.tells node.the-type node-laws.the-laws) refl tt
         (struct.makes node.the-type node-laws.the-plain 𝓤 H A) within nodes-cut
 
-    pub count-shows : Shows 𝓤 H A (sem 𝓤 H A (lies b o n)) fullShare (lone (u8 .mir)) b (o + 640) (vint w8 (n .count))
-    count-shows = field-shows 𝓤 H A W fullShare net.the-row n b o 640 u8 (n .count) (vint w8) (uint-tells w8) refl (uint-makes 𝓤 H A W w8)
-        (look-at 𝓤 H A W fullShare net.the-type net-laws.the-laws 1 640 refl refl (b, o) n (net.struct .as-values n) refl)
+    pub count-shows : Shows 𝓤 H A (sem 𝓤 H A (lies b o n)) fullShare (lone (u8 .mir)) b (o + 512) (vint w8 (n .count))
+    count-shows = field-shows 𝓤 H A W fullShare net.the-row n b o 512 u8 (n .count) (vint w8) (uint-tells w8) refl (uint-makes 𝓤 H A W w8)
+        (look-at 𝓤 H A W fullShare net.the-type net-laws.the-laws 1 512 refl refl (b, o) n (net.struct .as-values n) refl)
 
-    pub waiting-shows : Shows 𝓤 H A (sem 𝓤 H A (lies b o n)) fullShare (lone (u8 .mir)) b (o + 1154) (vint w8 (n .waiting))
-    waiting-shows = field-shows 𝓤 H A W fullShare net.the-row n b o 1154 u8 (n .waiting) (vint w8) (uint-tells w8) refl (uint-makes 𝓤 H A W w8)
-        (look-at 𝓤 H A W fullShare net.the-type net-laws.the-laws 3 1154 refl refl (b, o) n (net.struct .as-values n) refl)
+    pub waiting-shows : Shows 𝓤 H A (sem 𝓤 H A (lies b o n)) fullShare (lone (u8 .mir)) b (o + 1026) (vint w8 (n .waiting))
+    waiting-shows = field-shows 𝓤 H A W fullShare net.the-row n b o 1026 u8 (n .waiting) (vint w8) (uint-tells w8) refl (uint-makes 𝓤 H A W w8)
+        (look-at 𝓤 H A W fullShare net.the-type net-laws.the-laws 3 1026 refl refl (b, o) n (net.struct .as-values n) refl)
 
 -- ---- by cases on an enum's value
 module _ {M : Type 1} {𝓤 : URA M} {H : Heap 𝓤} {A : Atoms 𝓤} {K : Type 0} {W : Given 𝓤 H A} {Γ : List (Item 𝓤)} {G : Goal 𝓤 H} where

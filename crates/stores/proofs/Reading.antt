@@ -105,7 +105,7 @@ pub record NodeRead (n : Network) (u : ℕ) (x : Node) : Type 0 where
   pub is : NodeIs x
   pub byte : Fits w8 (u % 32)
   pub index : Fits w64 (u % 32)
-  pub offset : Fits w64 (u % 32 * 20)
+  pub offset : Fits w64 (u % 32 * 16)
 
 pub record MessageRead (n : Network) (p : ℕ) (m : Message) : Type 0 where
   pub here : messageIn n p ≡ m
@@ -133,12 +133,12 @@ message-read n p is = record {
 }
 
 module _ {M : Type 1} (𝓤 : URA M) (H : Heap 𝓤) (A : Atoms 𝓤) (W : Given 𝓤 H A) (b o : ℕ) {n : Network} {u : ℕ} where
-  pub node-seen : {x : Node} → NodeRead n u x → Shows 𝓤 H A (sem 𝓤 H A (lies b o n)) fullShare (lone (node.the-row .mir)) b (place 20 (o + 0) (u % 32)) (nodeVal x)
-  node-seen r = subst (λ (y : Node). Shows 𝓤 H A (sem 𝓤 H A (lies b o n)) fullShare (lone (node.the-row .mir)) b (place 20 (o + 0) (u % 32)) (nodeVal y)) (r .here)
+  pub node-seen : {x : Node} → NodeRead n u x → Shows 𝓤 H A (sem 𝓤 H A (lies b o n)) fullShare (lone (node.the-row .mir)) b (place 16 (o + 0) (u % 32)) (nodeVal x)
+  node-seen r = subst (λ (y : Node). Shows 𝓤 H A (sem 𝓤 H A (lies b o n)) fullShare (lone (node.the-row .mir)) b (place 16 (o + 0) (u % 32)) (nodeVal y)) (r .here)
       (node-shows 𝓤 H A W b o n (u % 32) (in-nodes u))
 
-  pub message-seen : {m : Message} → MessageRead n u m → Shows 𝓤 H A (sem 𝓤 H A (lies b o n)) fullShare (lone (msg.the-row .mir)) b (place 8 (o + 642) (u % 64)) (messageVal m)
-  message-seen r = subst (λ (y : Message). Shows 𝓤 H A (sem 𝓤 H A (lies b o n)) fullShare (lone (msg.the-row .mir)) b (place 8 (o + 642) (u % 64)) (messageVal y)) (r .here)
+  pub message-seen : {m : Message} → MessageRead n u m → Shows 𝓤 H A (sem 𝓤 H A (lies b o n)) fullShare (lone (msg.the-row .mir)) b (place 8 (o + 514) (u % 64)) (messageVal m)
+  message-seen r = subst (λ (y : Message). Shows 𝓤 H A (sem 𝓤 H A (lies b o n)) fullShare (lone (msg.the-row .mir)) b (place 8 (o + 514) (u % 64)) (messageVal y)) (r .here)
       (message-shows 𝓤 H A W b o n (u % 64) (in-messages u))
 
 module _ {M : Type 1} {𝓤 : URA M} {H : Heap 𝓤} {A : Atoms 𝓤} {K : Type 0} {W : Given 𝓤 H A} {Γ : List (Item 𝓤)} {G : Goal 𝓤 H} where

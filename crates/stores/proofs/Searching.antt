@@ -34,7 +34,7 @@ pub record NodeAt (n : Network) (i : ℕ) (x : Node) : Type 0 where
   pub inside : i < 32
   pub here : getD (n .nodes) i vacantNode ≡ x
   pub is : NodeIs x
-  pub offset : Fits w64 (i * 20)
+  pub offset : Fits w64 (i * 16)
 
 pub record MessageAt (n : Network) (i : ℕ) (m : Message) : Type 0 where
   pub inside : i < 64
@@ -43,12 +43,12 @@ pub record MessageAt (n : Network) (i : ℕ) (m : Message) : Type 0 where
   pub offset : Fits w64 (i * 8)
 
 module _ {M : Type 1} (𝓤 : URA M) (H : Heap 𝓤) (A : Atoms 𝓤) (W : Given 𝓤 H A) (b o : ℕ) {n : Network} {i : ℕ} where
-  pub node-there : {x : Node} → NodeAt n i x → Shows 𝓤 H A (sem 𝓤 H A (lies b o n)) fullShare (lone (node.the-row .mir)) b (place 20 (o + 0) i) (nodeVal x)
-  node-there r = subst (λ (y : Node). Shows 𝓤 H A (sem 𝓤 H A (lies b o n)) fullShare (lone (node.the-row .mir)) b (place 20 (o + 0) i) (nodeVal y)) (r .here)
+  pub node-there : {x : Node} → NodeAt n i x → Shows 𝓤 H A (sem 𝓤 H A (lies b o n)) fullShare (lone (node.the-row .mir)) b (place 16 (o + 0) i) (nodeVal x)
+  node-there r = subst (λ (y : Node). Shows 𝓤 H A (sem 𝓤 H A (lies b o n)) fullShare (lone (node.the-row .mir)) b (place 16 (o + 0) i) (nodeVal y)) (r .here)
       (node-shows 𝓤 H A W b o n i (r .inside))
 
-  pub message-there : {m : Message} → MessageAt n i m → Shows 𝓤 H A (sem 𝓤 H A (lies b o n)) fullShare (lone (msg.the-row .mir)) b (place 8 (o + 642) i) (messageVal m)
-  message-there r = subst (λ (y : Message). Shows 𝓤 H A (sem 𝓤 H A (lies b o n)) fullShare (lone (msg.the-row .mir)) b (place 8 (o + 642) i) (messageVal y)) (r .here)
+  pub message-there : {m : Message} → MessageAt n i m → Shows 𝓤 H A (sem 𝓤 H A (lies b o n)) fullShare (lone (msg.the-row .mir)) b (place 8 (o + 514) i) (messageVal m)
+  message-there r = subst (λ (y : Message). Shows 𝓤 H A (sem 𝓤 H A (lies b o n)) fullShare (lone (msg.the-row .mir)) b (place 8 (o + 514) i) (messageVal y)) (r .here)
       (message-shows 𝓤 H A W b o n i (r .inside))
 
 module _ {M : Type 1} {𝓤 : URA M} {H : Heap 𝓤} {A : Atoms 𝓤} {K : Type 0} {W : Given 𝓤 H A} {Γ : List (Item 𝓤)} {G : Goal 𝓤 H} where

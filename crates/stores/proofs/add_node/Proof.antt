@@ -57,18 +57,18 @@ module _ {M : Type 1} (𝓤 : URA M) (H : Heap 𝓤) (A : Atoms 𝓤) (W : Given
       move ! (18 ∷ 19 ∷ 20 ∷ []) $
       open-ref ! tt (mem net.the-row) {x = n} {b = b} {o = o} $
       -- [the network; the open borrow; what is observed; the right to change it; _8 to _0]. _3 = (*_1).count
-      sets ! 14 refl (of-opd ! (load ! (from ! (hop ! (look ! 18 refl) (fld ! {d = 640} refl (stop !)))) (look-by ! 0 fullShare (count-shows 𝓤 H A W b o n))))
+      sets ! 14 refl (of-opd ! (load ! (from ! (hop ! (look ! 18 refl) (fld ! {d = 512} refl (stop !)))) (look-by ! 0 fullShare (count-shows 𝓤 H A W b o n))))
       (tt, record { fits = omega (arith, asks) }) $
-      -- _4 = _3 as usize, _5 = _4 * 20, _6 = addrOf (*_1).nodes, _7 = offset _6 _5, *_7 = _2
+      -- _4 = _3 as usize, _5 = _4 * 16, _6 = addrOf (*_1).nodes, _7 = offset _6 _5, *_7 = _2
       sets ! 12 refl (un ! (var ! 14 refl) (record { fits = omega (arith, asks) })) (tt, record { fits = omega (arith, asks) }) $
       sets ! 10 refl (bin ! (var ! 12 refl) (lit ! tt) (record { fits = omega (arith, asks) })) (tt, record { fits = omega (arith, asks) }) $
       sets ! 8 refl (addr ! (from ! (hop ! (look ! 18 refl) (fld ! {d = 0} refl (stop !))))) (tt, tt) $
-      offsets ! 6 refl 20 (n .count) (var ! 8 refl) (var ! 10 refl) (tt, tt) $
+      offsets ! 6 refl 16 (n .count) (var ! 8 refl) (var ! 10 refl) (tt, tt) $
       assigns ! (of-opd ! (var ! 16 refl)) (from ! (hop ! (look ! 6 refl) (stop !)))
       (store-by ! 0 (‵ (lies b o (placed n (n .count) x))) (node-opens 𝓤 H A W b o n (n .count) x asks x-is) (node-typed 𝓤 H A W x x-is)) $
       -- _8 = _3 + 1, (*_1).count = _8
       sets ! 4 refl (bin ! (var ! 14 refl) (lit ! tt) (record { fits = omega (arith, asks) })) (tt, record { fits = omega (arith, asks) }) $
-      assigns ! (of-opd ! (var ! 4 refl)) (from ! (hop ! (look ! 18 refl) (fld ! {d = 640} refl (stop !))))
+      assigns ! (of-opd ! (var ! 4 refl)) (from ! (hop ! (look ! 18 refl) (fld ! {d = 512} refl (stop !))))
       (store-by ! 0 (‵ (lies b o n′)) (count-opens 𝓤 H A W b o (placed n (n .count) x) (n .count + 1) (omega (arith, asks))) (tt, record { fits = omega (arith, asks) })) $
       close-ref ! tt (mem net.the-row) (n′) {b = b} {o = o} $
       sets ! 19 refl (of-opd ! (unit-lit !)) (tt, tt) $

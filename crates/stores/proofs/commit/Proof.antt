@@ -148,9 +148,9 @@ module _ {M : Type 1} (𝓤 : URA M) (H : Heap 𝓤) (A : Atoms 𝓤) (W : Given
       open-ref ! tt (mem net.the-row) {x = n} {b = b} {o = o} $
       use1 W (given (Known n) (‵ (lies b o n))) (known 𝓤 H A W b o n) $ learn ! (λ k.
       -- [the network; the open borrow; what is observed; the right to change it; _22 to _0]. _3 = (*_1).count, _4 = (*_1).waiting
-      sets ! 42 refl (of-opd ! (load ! (from ! (hop ! (look ! 46 refl) (fld ! {d = 640} refl (stop !)))) (look-by ! 0 fullShare (count-shows 𝓤 H A W b o n))))
+      sets ! 42 refl (of-opd ! (load ! (from ! (hop ! (look ! 46 refl) (fld ! {d = 512} refl (stop !)))) (look-by ! 0 fullShare (count-shows 𝓤 H A W b o n))))
       (tt, record { fits = k .count }) $
-      sets ! 40 refl (of-opd ! (load ! (from ! (hop ! (look ! 46 refl) (fld ! {d = 1154} refl (stop !)))) (look-by ! 0 fullShare (waiting-shows 𝓤 H A W b o n))))
+      sets ! 40 refl (of-opd ! (load ! (from ! (hop ! (look ! 46 refl) (fld ! {d = 1026} refl (stop !)))) (look-by ! 0 fullShare (waiting-shows 𝓤 H A W b o n))))
       (tt, record { fits = k .waiting }) $
       -- _5 = fitting(_2, _3, _4)
       calls-plain ! (fmOf 𝓤 H (W .laws) 𝓣) (a-change ∷ a-byte ∷ a-byte ∷ []) a-change (fitting.clauses 𝓤 H A at-mem run) known-fitting (c, (n .count, (n .waiting, tt)))
@@ -185,7 +185,7 @@ module _ {M : Type 1} (𝓤 : URA M) (H : Heap 𝓤) (A : Atoms 𝓤) (W : Given
       let are = enum.owed change.the-type change-laws.the-laws (Step i x p) _ (subst ChangeIs e r-is) in
       sets ! 34 refl (of-opd ! (field-of ! 38 2 0 (tyInt w8) 1 refl refl refl refl)) (tt, record { fits = are .0 .1 }) $
       sets ! 32 refl (of-opd ! (field-of ! 38 2 1 node-laws.mir 4 refl refl refl refl)) (node-typed 𝓤 H A W x (are .1 .0)) $
-      sets ! 30 refl (of-opd ! (field-of ! 38 2 2 posts-laws.mir 24 refl refl refl refl)) (posts-typed 𝓤 H A W p (are .1 .1 .0)) $
+      sets ! 30 refl (of-opd ! (field-of ! 38 2 2 posts-laws.mir 20 refl refl refl refl)) (posts-typed 𝓤 H A W p (are .1 .1 .0)) $
       sets ! 14 refl (addr ! (from ! (hop ! (look ! 46 refl) (stop !)))) (tt, tt) $
       calls-lent ! b o (fmOf 𝓤 H (W .laws) 𝓣) (PlaceNode 𝓤 H A at-mem run) known-place n (placed n i x)
       (place-lends 𝓤 H A W at-mem run b o n i x (are .0 .1) (are .1 .0) (fit .finds .0))
@@ -205,7 +205,7 @@ module _ {M : Type 1} (𝓤 : URA M) (H : Heap 𝓤) (A : Atoms 𝓤) (W : Given
       sets ! 28 refl (of-opd ! (field-of ! 38 3 0 (tyInt w8) 1 refl refl refl refl)) (tt, record { fits = are .0 .1 }) $
       sets ! 26 refl (of-opd ! (field-of ! 38 3 1 (tyInt w8) 2 refl refl refl refl)) (tt, record { fits = are .1 .0 .1 }) $
       sets ! 24 refl (of-opd ! (field-of ! 38 3 2 node-laws.mir 4 refl refl refl refl)) (node-typed 𝓤 H A W x (are .1 .1 .0)) $
-      sets ! 22 refl (of-opd ! (field-of ! 38 3 3 posts-laws.mir 24 refl refl refl refl)) (posts-typed 𝓤 H A W p (are .1 .1 .1 .0)) $
+      sets ! 22 refl (of-opd ! (field-of ! 38 3 3 posts-laws.mir 20 refl refl refl refl)) (posts-typed 𝓤 H A W p (are .1 .1 .1 .0)) $
       sets ! 8 refl (addr ! (from ! (hop ! (look ! 46 refl) (stop !)))) (tt, tt) $
       calls-lent ! b o (fmOf 𝓤 H (W .laws) 𝓣) (TakeMessage 𝓤 H A at-mem run) known-take n (closed n at)
       (take-lends 𝓤 H A W at-mem run b o n at (are .0 .1) (fit .finds .0, fit .finds .1)) (λ k. (and-then ! (var ! 9 refl) (and-then ! (var ! 29 refl) (no-more !)))) $

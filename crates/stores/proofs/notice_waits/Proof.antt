@@ -91,7 +91,7 @@ module _ {M : Type 1} (𝓤 : URA M) (H : Heap 𝓤) (A : Atoms 𝓤) (W : Given
       open-ref ! tt (mem net.the-row) {x = n} {b = b} {o = o} $
       use1 W (given (Known n) (‵ (lies b o n))) (known 𝓤 H A W b o n) $ learn ! (λ k.
       -- [the network; the open borrow; what is observed; the right to change it; _12 to _0]. _3 = (*_1).waiting, _4 = least(_3, 64), _5 = false, _6 = 0
-      sets ! 22 refl (of-opd ! (load ! (from ! (hop ! (look ! 26 refl) (fld ! {d = 1154} refl (stop !)))) (look-by ! 0 fullShare (waiting-shows 𝓤 H A W b o n))))
+      sets ! 22 refl (of-opd ! (load ! (from ! (hop ! (look ! 26 refl) (fld ! {d = 1026} refl (stop !)))) (look-by ! 0 fullShare (waiting-shows 𝓤 H A W b o n))))
       (tt, record { fits = k .waiting }) $
       calls-plain ! (fmOf 𝓤 H (W .laws) 𝓣) (a-byte ∷ a-byte ∷ []) (a-number w64) (least.clauses 𝓤 H A at-mem run) known-least (n .waiting, (64, tt)) ((refl, k .waiting), ((refl, lit< tt), tt))
       tt (id⊢ 𝓤 _) (λ r. r ≡ leastOf (n .waiting) 64) (λ r zs. id⊢ 𝓤 _) (and-then ! (var ! 23 refl) (and-then ! (lit ! tt) (no-more !))) (λ end end-is end-says.
@@ -112,7 +112,7 @@ module _ {M : Type 1} (𝓤 : URA M) (H : Heap 𝓤) (A : Atoms 𝓤) (W : Given
       -- _9 = _6 * 8, _10 = addrOf (*_1).messages, _11 = offset _10 _9, _12 = *_11, _7 = _12
       at-message ! b o n i (omega (arith, less, few)) (λ x at.
       sets ! 12 refl (bin ! (var ! 1 refl) (lit ! tt) (at .offset)) (tt, at .offset) $
-      sets ! 10 refl (addr ! (from ! (hop ! (look ! 26 refl) (fld ! {d = 642} refl (stop !))))) (tt, tt) $
+      sets ! 10 refl (addr ! (from ! (hop ! (look ! 26 refl) (fld ! {d = 514} refl (stop !))))) (tt, tt) $
       offsets ! 8 refl 8 i (var ! 10 refl) (var ! 12 refl) (tt, tt) $
       sets ! 6 refl (of-opd ! (load ! (from ! (hop ! (look ! 8 refl) (stop !))) (look-by ! 0 fullShare (message-there 𝓤 H A W b o at)))) (message-typed 𝓤 H A W x (at .is)) $
       sets ! 16 refl (of-opd ! (var ! 6 refl)) (message-typed 𝓤 H A W x (at .is)) $

@@ -72,7 +72,7 @@ module _ {M : Type 1} (𝓤 : URA M) (H : Heap 𝓤) (A : Atoms 𝓤) (W : Given
       open-ref ! tt (mem net.the-row) {x = n} {b = b} {o = o} $
       use1 W (given (Known n) (‵ (lies b o n))) (known 𝓤 H A W b o n) $ learn ! (λ k.
       -- [the network; the open borrow; what is observed; the right to change it; _19 to _0]. _3 = (*_1).waiting
-      sets ! 36 refl (of-opd ! (load ! (from ! (hop ! (look ! 40 refl) (fld ! {d = 1154} refl (stop !)))) (look-by ! 0 fullShare (waiting-shows 𝓤 H A W b o n))))
+      sets ! 36 refl (of-opd ! (load ! (from ! (hop ! (look ! 40 refl) (fld ! {d = 1026} refl (stop !)))) (look-by ! 0 fullShare (waiting-shows 𝓤 H A W b o n))))
       (tt, record { fits = k .waiting }) $
       -- each arm comes to the same: the network n′, and its own locals forgotten
       comes-to ! (λ Γ. put 𝓤 H A 0 (‵ (lies b o n′)) (put 𝓤 H A 38 (‵ (froom posts-laws.mir l₂ 0)) Γ)) (λ finish. by-posts ! p
@@ -90,13 +90,13 @@ module _ {M : Type 1} (𝓤 : URA M) (H : Heap 𝓤) (A : Atoms 𝓤) (W : Given
       sets ! 34 refl (of-opd ! (field-of ! 38 1 0 msg-laws.mir 2 refl refl refl refl)) (message-typed 𝓤 H A W a a-is) $
       sets ! 28 refl (un ! (var ! 36 refl) (record { fits = omega (arith, room) })) (tt, record { fits = omega (arith, room) }) $
       sets ! 26 refl (bin ! (var ! 28 refl) (lit ! tt) (record { fits = omega (arith, room) })) (tt, record { fits = omega (arith, room) }) $
-      sets ! 24 refl (addr ! (from ! (hop ! (look ! 40 refl) (fld ! {d = 642} refl (stop !))))) (tt, tt) $
+      sets ! 24 refl (addr ! (from ! (hop ! (look ! 40 refl) (fld ! {d = 514} refl (stop !))))) (tt, tt) $
       offsets ! 22 refl 8 (n .waiting) (var ! 24 refl) (var ! 26 refl) (tt, tt) $
       assigns ! (of-opd ! (var ! 34 refl)) (from ! (hop ! (look ! 22 refl) (stop !)))
       (store-by ! 0 (‵ (lies b o (withMessages n (set (n .messages) (n .waiting) a)))) (message-opens 𝓤 H A W b o n (n .waiting) a (omega (arith, room)) a-is)
       (message-typed 𝓤 H A W a a-is)) $
       sets ! 20 refl (bin ! (var ! 36 refl) (lit ! tt) (record { fits = omega (arith, room) })) (tt, record { fits = omega (arith, room) }) $
-      assigns ! (of-opd ! (var ! 20 refl)) (from ! (hop ! (look ! 40 refl) (fld ! {d = 1154} refl (stop !))))
+      assigns ! (of-opd ! (var ! 20 refl)) (from ! (hop ! (look ! 40 refl) (fld ! {d = 1026} refl (stop !))))
       (store-by ! 0 (‵ (lies b o (allPosted n (a ∷ [])))) (waiting-opens 𝓤 H A W b o (withMessages n (set (n .messages) (n .waiting) a)) (n .waiting + 1) (omega (arith, room)))
       (tt, record { fits = omega (arith, room) })) $
       rewrite ! 0 (λ (r : Posts). ‵ (lies b o (allPosted n (listed r)))) (sym e) refl $
@@ -110,7 +110,7 @@ module _ {M : Type 1} (𝓤 : URA M) (H : Heap 𝓤) (A : Atoms 𝓤) (W : Given
       sets ! 30 refl (of-opd ! (field-of ! 38 2 1 msg-laws.mir 10 refl refl refl refl)) (message-typed 𝓤 H A W c (are .1 .0)) $
       sets ! 18 refl (un ! (var ! 36 refl) (record { fits = omega (arith, room) })) (tt, record { fits = omega (arith, room) }) $
       sets ! 16 refl (bin ! (var ! 18 refl) (lit ! tt) (record { fits = omega (arith, room) })) (tt, record { fits = omega (arith, room) }) $
-      sets ! 14 refl (addr ! (from ! (hop ! (look ! 40 refl) (fld ! {d = 642} refl (stop !))))) (tt, tt) $
+      sets ! 14 refl (addr ! (from ! (hop ! (look ! 40 refl) (fld ! {d = 514} refl (stop !))))) (tt, tt) $
       offsets ! 12 refl 8 (n .waiting) (var ! 14 refl) (var ! 16 refl) (tt, tt) $
       assigns ! (of-opd ! (var ! 32 refl)) (from ! (hop ! (look ! 12 refl) (stop !)))
       (store-by ! 0 (‵ (lies b o (withMessages n (set (n .messages) (n .waiting) a)))) (message-opens 𝓤 H A W b o n (n .waiting) a (omega (arith, room)) (are .0))
@@ -118,13 +118,13 @@ module _ {M : Type 1} (𝓤 : URA M) (H : Heap 𝓤) (A : Atoms 𝓤) (W : Given
       resets ! 18 refl (un ! (var ! 36 refl) (record { fits = omega (arith, room) })) (tt, record { fits = omega (arith, room) }) $
       resets ! 16 refl (bin ! (var ! 18 refl) (lit ! tt) (record { fits = omega (arith, room) })) (tt, record { fits = omega (arith, room) }) $
       sets ! 10 refl (bin ! (var ! 16 refl) (lit ! tt) (record { fits = omega (arith, room) })) (tt, record { fits = omega (arith, room) }) $
-      sets ! 8 refl (addr ! (from ! (hop ! (look ! 40 refl) (fld ! {d = 642} refl (stop !))))) (tt, tt) $
+      sets ! 8 refl (addr ! (from ! (hop ! (look ! 40 refl) (fld ! {d = 514} refl (stop !))))) (tt, tt) $
       offsets ! 6 refl 8 (n .waiting + 1) (var ! 8 refl) (var ! 10 refl) (tt, tt) $
       assigns ! (of-opd ! (var ! 30 refl)) (from ! (hop ! (look ! 6 refl) (stop !)))
       (store-by ! 0 (‵ (lies b o (withMessages n (set (set (n .messages) (n .waiting) a) (n .waiting + 1) c))))
       (message-opens 𝓤 H A W b o (withMessages n (set (n .messages) (n .waiting) a)) (n .waiting + 1) c (omega (arith, room)) (are .1 .0)) (message-typed 𝓤 H A W c (are .1 .0))) $
       sets ! 4 refl (bin ! (var ! 36 refl) (lit ! tt) (record { fits = omega (arith, room) })) (tt, record { fits = omega (arith, room) }) $
-      assigns ! (of-opd ! (var ! 4 refl)) (from ! (hop ! (look ! 40 refl) (fld ! {d = 1154} refl (stop !))))
+      assigns ! (of-opd ! (var ! 4 refl)) (from ! (hop ! (look ! 40 refl) (fld ! {d = 1026} refl (stop !))))
       (store-by ! 0 (‵ (lies b o (allPosted n (a ∷ c ∷ [])))) (waiting-opens 𝓤 H A W b o (withMessages n (set (set (n .messages) (n .waiting) a) (n .waiting + 1) c)) (n .waiting + 2)
       (omega (arith, room))) (tt, record { fits = omega (arith, room) })) $
       rewrite ! 0 (λ (r : Posts). ‵ (lies b o (allPosted n (listed r)))) (sym e) refl $

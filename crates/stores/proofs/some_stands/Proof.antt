@@ -90,7 +90,7 @@ module _ {M : Type 1} (𝓤 : URA M) (H : Heap 𝓤) (A : Atoms 𝓤) (W : Given
       open-ref ! tt (mem net.the-row) {x = n} {b = b} {o = o} $
       use1 W (given (Known n) (‵ (lies b o n))) (known 𝓤 H A W b o n) $ learn ! (λ k.
       -- [the network; the open borrow; what is observed; the right to change it; _11 to _0]. _2 = (*_1).count, _3 = least(_2, 32), _4 = true, _5 = 0
-      sets ! 22 refl (of-opd ! (load ! (from ! (hop ! (look ! 24 refl) (fld ! {d = 640} refl (stop !)))) (look-by ! 0 fullShare (count-shows 𝓤 H A W b o n))))
+      sets ! 22 refl (of-opd ! (load ! (from ! (hop ! (look ! 24 refl) (fld ! {d = 512} refl (stop !)))) (look-by ! 0 fullShare (count-shows 𝓤 H A W b o n))))
       (tt, record { fits = k .count }) $
       calls-plain ! (fmOf 𝓤 H (W .laws) 𝓣) (a-byte ∷ a-byte ∷ []) (a-number w64) (least.clauses 𝓤 H A at-mem run) known-least (n .count, (32, tt)) ((refl, k .count), ((refl, lit< tt), tt))
       tt (id⊢ 𝓤 _) (λ r. r ≡ leastOf (n .count) 32) (λ r zs. id⊢ 𝓤 _) (and-then ! (var ! 23 refl) (and-then ! (lit ! tt) (no-more !))) (λ end end-is end-says.
@@ -108,11 +108,11 @@ module _ {M : Type 1} (𝓤 : URA M) (H : Heap 𝓤) (A : Atoms 𝓤) (W : Given
       by-cases ! (ltb i end)
       (λ held. rewrite ! 14 (λ (z : Bool). ‵ (fat fullShare tyBool l₇ 0 (vbool z))) held refl $ stays ! (var ! 14 refl) $
       let less : i < end = ltb-true i end held in
-      -- _8 = _5 * 20, _9 = addrOf (*_1).nodes, _10 = offset _9 _8, _11 = *_10, _6 = _11
+      -- _8 = _5 * 16, _9 = addrOf (*_1).nodes, _10 = offset _9 _8, _11 = *_10, _6 = _11
       at-node ! b o n i (omega (arith, less, few)) (λ x at.
       sets ! 12 refl (bin ! (var ! 1 refl) (lit ! tt) (at .offset)) (tt, at .offset) $
       sets ! 10 refl (addr ! (from ! (hop ! (look ! 24 refl) (fld ! {d = 0} refl (stop !))))) (tt, tt) $
-      offsets ! 8 refl 20 i (var ! 10 refl) (var ! 12 refl) (tt, tt) $
+      offsets ! 8 refl 16 i (var ! 10 refl) (var ! 12 refl) (tt, tt) $
       sets ! 6 refl (of-opd ! (load ! (from ! (hop ! (look ! 8 refl) (stop !))) (look-by ! 0 fullShare (node-there 𝓤 H A W b o at)))) (node-typed 𝓤 H A W x (at .is)) $
       sets ! 16 refl (of-opd ! (var ! 6 refl)) (node-typed 𝓤 H A W x (at .is)) $
       -- _7 = is_out(_6), _4 = _4 & _7, _5 = _5 + 1

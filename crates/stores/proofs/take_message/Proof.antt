@@ -97,7 +97,7 @@ module _ {M : Type 1} (𝓤 : URA M) (H : Heap 𝓤) (A : Atoms 𝓤) (W : Given
       use1 W (given (Known n) (‵ (lies b o n))) (known 𝓤 H A W b o n) $ learn ! (λ k.
       -- [the network; the open borrow; what is observed; the right to change it; _20 to _0]
       -- _7 = (*_1).waiting, _3 = _7 - 1, _4 = _3 as usize, _5 = _2 as usize
-      sets ! 30 refl (of-opd ! (load ! (from ! (hop ! (look ! 42 refl) (fld ! {d = 1154} refl (stop !)))) (look-by ! 0 fullShare (waiting-shows 𝓤 H A W b o n))))
+      sets ! 30 refl (of-opd ! (load ! (from ! (hop ! (look ! 42 refl) (fld ! {d = 1026} refl (stop !)))) (look-by ! 0 fullShare (waiting-shows 𝓤 H A W b o n))))
       (tt, record { fits = k .waiting }) $
       sets ! 38 refl (bin ! (var ! 30 refl) (lit ! tt) (omega (arith, asks .0, asks .1))) (tt, record { fits = omega (arith, asks .0, asks .1) }) $
       sets ! 36 refl (un ! (var ! 38 refl) (record { fits = omega (arith, asks .0, asks .1) })) (tt, record { fits = omega (arith, asks .0, asks .1) }) $
@@ -116,14 +116,14 @@ module _ {M : Type 1} (𝓤 : URA M) (H : Heap 𝓤) (A : Atoms 𝓤) (W : Given
       -- _9 = _5 + 1, _10 = _9 * 8, _11 = addrOf (*_1).messages, _12 = offset _11 _10, _13 = *_12, _6 = _13
       sets ! 27 refl (bin ! (var ! 1 refl) (lit ! tt) (record { fits = omega (arith, less, asks .1) })) (tt, record { fits = omega (arith, less, asks .1) }) $
       sets ! 25 refl (bin ! (var ! 27 refl) (lit ! tt) (record { fits = omega (arith, less, asks .1) })) (tt, record { fits = omega (arith, less, asks .1) }) $
-      sets ! 23 refl (addr ! (from ! (hop ! (look ! 42 refl) (fld ! {d = 642} refl (stop !))))) (tt, tt) $
+      sets ! 23 refl (addr ! (from ! (hop ! (look ! 42 refl) (fld ! {d = 514} refl (stop !))))) (tt, tt) $
       offsets ! 21 refl 8 (i + 1) (var ! 23 refl) (var ! 25 refl) (tt, tt) $
       sets ! 19 refl (of-opd ! (load ! (from ! (hop ! (look ! 21 refl) (stop !))) (look-by ! 0 fullShare (message-shows 𝓤 H A W b o (at i) (i + 1) (omega (arith, less, asks .1))))))
       (message-typed 𝓤 H A W (getD (moved i) (i + 1) vacantMessage) m-is) $
       sets ! 33 refl (of-opd ! (var ! 19 refl)) (message-typed 𝓤 H A W (getD (moved i) (i + 1) vacantMessage) m-is) $
       -- _9 = _5 * 8, _14 = addrOf (*_1).messages, _15 = offset _14 _9, *_15 = _6, _5 = _5 + 1
       resets ! 27 refl (bin ! (var ! 1 refl) (lit ! tt) (record { fits = omega (arith, less, asks .1) })) (tt, record { fits = omega (arith, less, asks .1) }) $
-      sets ! 17 refl (addr ! (from ! (hop ! (look ! 42 refl) (fld ! {d = 642} refl (stop !))))) (tt, tt) $
+      sets ! 17 refl (addr ! (from ! (hop ! (look ! 42 refl) (fld ! {d = 514} refl (stop !))))) (tt, tt) $
       offsets ! 15 refl 8 i (var ! 17 refl) (var ! 27 refl) (tt, tt) $
       assigns ! (of-opd ! (var ! 33 refl)) (from ! (hop ! (look ! 15 refl) (stop !)))
       (store-by ! 0 (‵ (lies b o (withMessages n (set (moved i) i (getD (moved i) (i + 1) vacantMessage)))))
@@ -141,7 +141,7 @@ module _ {M : Type 1} (𝓤 : URA M) (H : Heap 𝓤) (A : Atoms 𝓤) (W : Given
       sets ! 13 refl (agg ! (and-then ! (lit ! tt) (no-more !))) (tt, (record { fits = lit< tt }, tt)) $
       sets ! 11 refl (agg ! (and-then ! (lit ! tt) (and-then ! (lit ! tt) (and-then ! (var ! 13 refl) (no-more !))))) (message-typed 𝓤 H A W vacantMessage vacant-is) $
       sets ! 9 refl (bin ! (var ! 36 refl) (lit ! tt) (record { fits = omega (arith, asks .0, asks .1) })) (tt, record { fits = omega (arith, asks .0, asks .1) }) $
-      sets ! 7 refl (addr ! (from ! (hop ! (look ! 42 refl) (fld ! {d = 642} refl (stop !))))) (tt, tt) $
+      sets ! 7 refl (addr ! (from ! (hop ! (look ! 42 refl) (fld ! {d = 514} refl (stop !))))) (tt, tt) $
       offsets ! 5 refl 8 end (var ! 7 refl) (var ! 9 refl) (tt, tt) $
       assigns ! (of-opd ! (var ! 11 refl)) (from ! (hop ! (look ! 5 refl) (stop !)))
       (store-by ! 0 (‵ (lies b o (withMessages n (set (moved i) end vacantMessage)))) (message-opens 𝓤 H A W b o (at i) end vacantMessage (omega (arith, asks .0, asks .1)) vacant-is)
@@ -149,7 +149,7 @@ module _ {M : Type 1} (𝓤 : URA M) (H : Heap 𝓤) (A : Atoms 𝓤) (W : Given
       rewrite ! 0 (λ (ms : List Message). ‵ (lies b o (withMessages n ms))) (shift-done (n .messages) place i (n .waiting) (f .1) (omega (arith, last, f .2, asks .0))
       (omega (arith, asks .1, k .size)) vacantMessage) refl $
       -- (*_1).waiting = _3
-      assigns ! (of-opd ! (var ! 38 refl)) (from ! (hop ! (look ! 42 refl) (fld ! {d = 1154} refl (stop !))))
+      assigns ! (of-opd ! (var ! 38 refl)) (from ! (hop ! (look ! 42 refl) (fld ! {d = 1026} refl (stop !))))
       (store-by ! 0 (‵ (lies b o n′)) (waiting-opens 𝓤 H A W b o (withMessages n (n′ .messages)) end (omega (arith, asks .0, asks .1)))
       (tt, record { fits = omega (arith, asks .0, asks .1) })) $
       move ! (0 ∷ 2 ∷ 3 ∷ 4 ∷ []) $

@@ -150,7 +150,7 @@ module _ {M : Type 1} (𝓤 : URA M) (H : Heap 𝓤) (A : Atoms 𝓤) (W : Given
       calls-plain ! (fmOf 𝓤 H (W .laws) 𝓣) [] a-tally (no-tally.clauses 𝓤 H A at-mem run) known-none tt tt
       tt (id⊢ 𝓤 _) (λ r. r ≡ record { made = 0; posted = 0 }) (λ r zs. id⊢ 𝓤 _) (no-more !) (λ t₀ t₀-is fresh.
       lands-in ! 12 refl (tally-typed 𝓤 H A W t₀ t₀-is) $
-      sets ! 10 refl (of-opd ! (load ! (from ! (hop ! (look ! 16 refl) (fld ! {d = 1154} refl (stop !)))) (look-by ! 0 fullShare (waiting-shows 𝓤 H A W b o n))))
+      sets ! 10 refl (of-opd ! (load ! (from ! (hop ! (look ! 16 refl) (fld ! {d = 1026} refl (stop !)))) (look-by ! 0 fullShare (waiting-shows 𝓤 H A W b o n))))
       (tt, record { fits = k .waiting }) $
       -- the loop: [the invariant; the rest]
       move ! (12 ∷ 10 ∷ 0 ∷ []) $
@@ -180,7 +180,7 @@ module _ {M : Type 1} (𝓤 : URA M) (H : Heap 𝓤) (A : Atoms 𝓤) (W : Given
       let told = exactly t t′ (p .posted) (next-fits (f .1) (reported m′ p) goes e (budget-is .1)) wraps in
       lands-again ! 1 refl (tally-typed 𝓤 H A W t′ t′-is) $
       use1 W (given (Known m′) (‵ (lies b o m′))) (known 𝓤 H A W b o m′) $ learn ! (λ j′.
-      assigns-last ! (of-opd ! (load ! (from ! (hop ! (look ! 16 refl) (fld ! {d = 1154} refl (stop !)))) (look-by ! 0 fullShare (waiting-shows 𝓤 H A W b o m′)))) (from ! (stop !))
+      assigns-last ! (of-opd ! (load ! (from ! (hop ! (look ! 16 refl) (fld ! {d = 1026} refl (stop !)))) (look-by ! 0 fullShare (waiting-shows 𝓤 H A W b o m′)))) (from ! (stop !))
       (store ! 2 refl (tt, record { fits = j′ .waiting })) $
       forget ! 8 refl $ forget ! 10 refl $ forget ! 6 refl $
       move ! (1 ∷ 2 ∷ 0 ∷ []) $
