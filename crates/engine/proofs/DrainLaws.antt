@@ -1,8 +1,8 @@
 -- A drain step by step: what is still to be delivered leads where the whole drain leads, and with what was made it counts as many. Each
 -- delivery at the lowest place keeps that, and where the drain does not go on it is finished. Assumes nothing.
-use mathlib.Core.Path.{_≡_, sym, ap, _∙_}
+use mathlib.Core.Path.{_≡_, refl, sym, ap, _∙_}
 use mathlib.Core.Logic.{⊎-elim, _≢_}
-use mathlib.Core.Bool.{true, false, _&&_}
+use mathlib.Core.Bool.{Bool, true, false, cond, _&&_}
 use mathlib.Core.List.{List, [], _∷_}
 use mathlib.Core.Option.{none, some}
 use Prim.Native.Nat.{ℕ, zero, suc, _+_, _*_, _-_, _^_, _≤_, _<_}
@@ -32,7 +32,8 @@ use Rattle.network.proofs.ArrayLaws.{formed, live-held, held-well-formed}
 use Rattle.network.proofs.LiveLaws.{messages-length}
 use Rattle.engine.specs.Outcomes.{Counted, counted, inArrays, applyOf, drainOf}
 use Rattle.engine.specs.Computed.{placeOf, nextDelivery}
-use Rattle.engine.proofs.CallLaws.{same}
+use Rattle.ruling.specs.Places.{lowestPlaceFrom, lowestPlace}
+use Rattle.engine.proofs.CallLaws.{same, delivers-here}
 
 -- ---- the arrays that hold well-formed lists
 filled-length : {A : Type 0} (n : ℕ) (blank : A) (l : List A) → length l ≤ n → length (filled n blank l) ≡ n
@@ -68,6 +69,25 @@ next-place n l h waits =
     let (q, there, can) = some-lowest (live n) (holds (formed n h .lists)) (omega (arith, messages-length n l h)) in
     ends-somewhere (live n) (length (live n .messages)) 0 q (omega arith) (omega arith) (is-true _ can)
 
+-- the code looks for that place
+module _ (n : Network) (l : Lengths n) (h : wellFormed n ≡ true) where
+  same-search : (place k : ℕ) → place + k ≤ n .waiting → placeOf (lowestFrom (live n) place k) ≡ lowestPlaceFrom n place k
+  same-search place zero inside = refl
+  same-search place (suc k) inside =
+      ⊎-elim (λ t. there t ∙ sym (here t)) (λ f. there f ∙ same-search (suc place) k (omega arith) ∙ sym (here f)) (decided (canDeliver (live n) place))
+    where
+      there : {b : Bool} → canDeliver (live n) place ≡ b
+          → placeOf (lowestFrom (live n) place (suc k)) ≡ placeOf (cond b (some place) (lowestFrom (live n) (suc place) k))
+      there e = ap (λ b. placeOf (cond b (some place) (lowestFrom (live n) (suc place) k))) e
+
+      here : {b : Bool} → canDeliver (live n) place ≡ b → lowestPlaceFrom n place (suc k) ≡ cond b place (lowestPlaceFrom n (suc place) k)
+      here e = ap (λ b. cond b place (lowestPlaceFrom n (suc place) k)) (delivers-here n l h place (omega arith) ∙ e)
+
+  pub lowest-is : 0 < n .waiting → lowest (live n) ≡ some (lowestPlace n)
+  lowest-is waits =
+      let all = messages-length n l h in
+      next-place n l h waits ∙ ap some (ap (λ k. placeOf (lowestFrom (live n) 0 k)) all ∙ same-search 0 (n .waiting) (omega arith))
+
 -- ---- a drain that has made some of its deliveries
 pub record Underway (start : Network) (budget : ℕ) (n : Network) (made posted : ℕ) : Type 0 where
   pub arrays : Lengths n
@@ -85,6 +105,10 @@ begins n budget l h =
 
 module _ {start : Network} {budget : ℕ} {n : Network} {made posted : ℕ} (u : Underway start budget n made posted) where
   -- one delivery more, which is of a few messages
+  -- the place that the code finds, while the drain goes on
+  pub chosen : (place : ℕ) → (ltb made budget && ltb 0 (n .waiting)) ≡ true → place ≡ lowestPlace n → lowest (live n) ≡ some place
+  chosen place goes e = lowest-is n (u .arrays) (u .well-formed) (ltb-true 0 (n .waiting) (both (ltb made budget) _ goes .1)) ∙ ap some (sym e)
+
   module _ (place : ℕ) (x : Counted) (goes : (ltb made budget && ltb 0 (n .waiting)) ≡ true) (at : lowest (live n) ≡ some place) (e : x ≡ counted (applyOf n (Deliver place))) where
     next : State
     next = afterDelivery (live n) place

@@ -1,20 +1,13 @@
 // Calls and drains by value, past the test of the network.
 ghost use mathlib.Core.Path.{_≡_};
 ghost use mathlib.Core.Bool.{true};
-ghost use mathlib.Core.Option.{some};
-ghost use Prim.Native.Nat.{_<_};
 ghost use Rattle.refusal.specs.Code.{reason};
-ghost use Rattle.protocol.specs.declared.Call.the-variants.{Deliver};
-ghost use Rattle.protocol.specs.Answer.{accepted};
-ghost use Rattle.protocol.specs.Calls.{applyOf as applyToLists};
-ghost use Rattle.protocol.specs.Drain.{lowest};
-ghost use Rattle.network.specs.Arrays.{live, wellFormed};
+ghost use Rattle.network.specs.Arrays.{wellFormed};
 ghost use Rattle.engine.specs.Outcomes.{called, counted, refused, applyOf, drainOf};
 use crate::Called;
 use access::Change;
 use decision::Decision;
 use network::Network;
-use network::QUEUE_LIMIT;
 use protocol::Answer;
 use protocol::Call;
 use refusal::Refusal;
@@ -59,33 +52,6 @@ pub(crate) fn apply(network: Network, call: Call) -> Called
     }
 }
 
-// Whether a delivery at a place where a message waits is not refused: only a full queue has no room for what a granted request posts.
-fn delivers(network: Network, place: u8) -> bool
-    requires { ⌜ (wellFormed network ≡ true) × (place < network .waiting) ⌝ }
-    ensures { λ r. ⌜ r ≡ accepted (applyToLists (live network) (Deliver place) .said) ⌝ }
-{
-    let arrival = access::met(network, place);
-    let node = arrival.node;
-    let message = arrival.message;
-    let kind = message.kind;
-    (network.waiting < QUEUE_LIMIT) | !node.would_grant(message.sender, kind)
-}
-
-// The lowest place where a delivery is not refused.
-pub(crate) fn lowest(network: Network) -> u8
-    requires { ⌜ (wellFormed network ≡ true) × (0 < network .waiting) ⌝ }
-    ensures { λ r. ⌜ lowest (live network) ≡ some r ⌝ }
-{
-    let mut place: u8 = 0;
-    while place < network.waiting {
-        if delivers(network, place) {
-            return place;
-        }
-        place += 1;
-    }
-    0
-}
-
 // Deliveries, each at the lowest place where one is not refused, until nothing waits or the budget is spent.
 pub(crate) fn drain(network: Network, budget: u16) -> Called
     requires { ⌜ wellFormed network ≡ true ⌝ }
@@ -94,7 +60,7 @@ pub(crate) fn drain(network: Network, budget: u16) -> Called
     let mut n = network;
     let mut tally = Tally { made: 0, posted: 0 };
     while report::goes_on(tally, budget, n.waiting) {
-        let place = lowest(n);
+        let place = ruling::lowest(n);
         let called = apply(n, Call::Deliver(place));
         let next = called.network;
         let report = called.report;

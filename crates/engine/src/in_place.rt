@@ -33,7 +33,7 @@ fn deliver(network: &mut Network) -> Report
     if waiting < QUEUE_LIMIT {
         return act(network, Call::Deliver(0));
     }
-    let place = formed::lowest(*network);
+    let place = ruling::lowest(*network);
     act(network, Call::Deliver(place))
 }
 

@@ -9,8 +9,10 @@ use network::Network;
 use protocol::Call;
 
 mod in_place;
+mod places;
 
 pub use in_place::decide as decide_in_place;
+pub use places::lowest;
 
 // What a call comes to, from what it looks at.
 pub fn decide(network: Network, call: Call) -> Decision

@@ -10,7 +10,7 @@ use Rattle.truth.proofs.Laws.{both}
 use Rattle.network.proofs.Lengths.{lengths}
 use Rattle.report.proofs.Exact.{exactly}
 use Rattle.engine.specs.Outcomes.{called}
-use Rattle.engine.proofs.DrainLaws.{Underway, begins, tally-fits, goes-on, stops}
+use Rattle.engine.proofs.DrainLaws.{Underway, begins, chosen, tally-fits, goes-on, stops}
 use Rattle.engine.proofs.formed.drain.Statement.{statement}
 use Rattle.engine.proofs.formed.drain.Tie as tie
 
@@ -23,13 +23,6 @@ abbrev μ-loop : tie.MeasureT-loop
 loop-holds : tie.Need-loop-holds Inv-loop μ-loop
 loop-holds c = begins _ (c .args .budget) (lengths _ _ (c .good .0)) (c .pre)
 
-lowest-requires : tie.Need-lowest-requires Inv-loop μ-loop
-lowest-requires c κs =
-    let n = c .before .before .loop .n in
-    let test = sym (c .before .goes-on .ensures) ∙ c .if1 .taken in
-    let made = c .before .before .loop .tally .made in
-    (c .before .before .loop .inv .well-formed, ltb-true 0 (n .waiting) (both (ltb made (c .before .before .before .args .budget)) (ltb 0 (n .waiting)) test .1))
-
 apply-requires : tie.Need-apply-requires Inv-loop μ-loop
 apply-requires c κs = c .before .before .before .loop .inv .well-formed
 
@@ -39,9 +32,10 @@ loop-again c =
     let turn = made .before in
     let loop = turn .before .before .before in
     let goes = sym (turn .before .before .goes-on .ensures) ∙ turn .before .if1 .taken in
-    let fits = tally-fits (loop .loop .inv) (turn .lowest .result) (called (made .apply .result)) goes (turn .lowest .ensures) (made .apply .ensures) (loop .before .fits .budget .fits) in
+    let there = chosen (loop .loop .inv) (turn .lowest .result) goes (turn .lowest .ensures) in
+    let fits = tally-fits (loop .loop .inv) (turn .lowest .result) (called (made .apply .result)) goes there (made .apply .ensures) (loop .before .fits .budget .fits) in
     rw (exactly (loop .loop .tally) (c .tallied .result) (made .apply .result .report .posted) fits (c .tallied .ensures))
-    (goes-on (loop .loop .inv) (turn .lowest .result) (called (made .apply .result)) goes (turn .lowest .ensures) (made .apply .ensures))
+    (goes-on (loop .loop .inv) (turn .lowest .result) (called (made .apply .result)) goes there (made .apply .ensures))
 
 loop-less : tie.Need-loop-less Inv-loop μ-loop
 loop-less c =
@@ -51,7 +45,8 @@ loop-less c =
     let loop = turn .before .before .before in
     let made = loop .loop .tally .made in
     let budget = loop .before .args .budget in
-    let fits = tally-fits (loop .loop .inv) (turn .lowest .result) (called (step .apply .result)) test (turn .lowest .ensures) (step .apply .ensures) (loop .before .fits .budget .fits) in
+    let there = chosen (loop .loop .inv) (turn .lowest .result) test (turn .lowest .ensures) in
+    let fits = tally-fits (loop .loop .inv) (turn .lowest .result) (called (step .apply .result)) test there (step .apply .ensures) (loop .before .fits .budget .fits) in
     rw (exactly (loop .loop .tally) (c .tallied .result) (step .apply .result .report .posted) fits (c .tallied .ensures)) (omega (arith, ltb-true made budget (both (ltb made budget) (ltb 0 (loop .loop .n .waiting)) test .0)))
 
 returns : tie.Need-returns Inv-loop μ-loop
@@ -68,7 +63,7 @@ drain-spec =
     μ-loop
     loop-holds
     (λ c κs. search needs)
-    lowest-requires
+    (λ c κs. search needs)
     apply-requires
     (λ c κs. search needs)
     loop-less

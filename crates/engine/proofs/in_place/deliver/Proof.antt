@@ -16,7 +16,7 @@ use prog.Memory.{Memory}
 use prog.Routine.{Routine}
 use prog.Wp.{Heap, WpFn, Tables}
 use ghost.Atoms.{Atoms}
-use contract.Monad.{Fun, factI}
+use contract.Monad.{Fun}
 use contract.Running.{givenOf, tables, tablesOf}
 use types.Kit.{Given, ‵, given, _$_, _∵_, !, qed, by, move, use1, learn, rewrite}
 use types.Run.{look, init, stop, hop, fld, from, load, lit, addr, bin, of-opd, and-then, no-more, returns, enter, alloc1, alloc0, params1, pass1, pass0}
@@ -55,15 +55,16 @@ use Rattle.engine.specs.Computed.{placeOf, nextDelivery}
 use Rattle.ruling.proofs.Values.{a-call, a-report, IsOf, call-typed, report-typed}
 use Rattle.network.proofs.Network.Laws as net-laws
 use Rattle.protocol.specs.Drain.{lowest as lowestOf}
-use Rattle.engine.proofs.DrainLaws.{first-is-lowest}
+use Rattle.ruling.specs.Places.{lowestPlace}
+use Rattle.engine.proofs.DrainLaws.{first-is-lowest, lowest-is}
 use Rattle.engine.proofs.in_place.act as act
 use Rattle.engine.proofs.in_place.act.Symbol as act-def
 use Rattle.engine.proofs.in_place.act.Symbol.{name as #engine·in-place·act}
 use Rattle.engine.proofs.in_place.act.Met as act-met
-use Rattle.engine.proofs.formed.lowest as lowest
-use Rattle.engine.proofs.formed.lowest.Symbol as lowest-def
-use Rattle.engine.proofs.formed.lowest.Symbol.{name as #engine·formed·lowest}
-use Rattle.engine.proofs.formed.lowest.Met as lowest-met
+use Rattle.ruling.proofs.lowest as lowest
+use Rattle.ruling.proofs.lowest.Symbol as lowest-def
+use Rattle.ruling.proofs.lowest.Symbol.{name as #ruling·lowest}
+use Rattle.ruling.proofs.lowest.Met as lowest-met
 use Rattle.engine.proofs.in_place.deliver as this
 use Rattle.engine.proofs.in_place.deliver.Key.{name as #engine·in-place·deliver}
 use Rattle.engine.proofs.in_place.deliver.Statement.{statement}
@@ -90,7 +91,7 @@ delivered n m r p at e = e ∙ sym (ap (λ l. counted (applyOf n (Deliver (place
 -- ---- the walk
 module _ {M : Type 1} (𝓤 : URA M) (H : Heap 𝓤) (A : Atoms 𝓤) (W : Given 𝓤 H A) (at-mem : Memory → SProp 𝓤) (run : Routine → Fun 𝓤) (𝓣 : Tables 𝓤 H)
     (known-act : Triple 𝓤 (𝓣 .C #engine·in-place·act) (Act 𝓤 H A at-mem run))
-    (known-lowest : Triple 𝓤 (𝓣 .C #engine·formed·lowest) (Lowest 𝓤 H A at-mem run))
+    (known-lowest : Triple 𝓤 (𝓣 .C #ruling·lowest) (Lowest 𝓤 H A at-mem run))
     (κ : Lft) (q : Share) (b o : ℕ) (γ : GName) (n : Network) where
   abbrev Ends : Report → Network → Type 0
   Ends r m = reported m r ≡ counted (nextDelivery n)
@@ -131,7 +132,7 @@ module _ {M : Type 1} (𝓤 : URA M) (H : Heap 𝓤) (A : Atoms 𝓤) (W : Given
       -- _7 = *_1, _3 = lowest(_7)
       sets ! 8 refl (of-opd ! (load ! (from ! (hop ! (look ! 20 refl) (stop !))) (look-by ! 0 fullShare (whole-shows 𝓤 H A W b o n)))) (network-typed 𝓤 H A W n (k .is)) $
       calls-plain ! (fmOf 𝓤 H (W .laws) 𝓣) (a-network ∷ []) a-byte (lowest.clauses 𝓤 H A at-mem run) known-lowest (n, tt) (k .is, tt)
-      tt (factI 𝓤 _ _ asks) (λ r. lowestOf (live n) ≡ just r) (λ r zs. id⊢ 𝓤 _) (and-then ! (load ! (from ! (stop !)) (look ! 9 {τ = net-laws.mir} refl)) (no-more !)) (λ p p-is low.
+      tt (id⊢ 𝓤 _) (λ r. r ≡ lowestPlace n) (λ r zs. id⊢ 𝓤 _) (and-then ! (load ! (from ! (stop !)) (look ! 9 {τ = net-laws.mir} refl)) (no-more !)) (λ p p-is low.
       lands-in ! 16 refl (tt, record { fits = p-is .1 }) $
       -- _8 = addrOf *_1, _9 = Deliver _3, _0 = act(_8, _9), return
       sets ! 6 refl (addr ! (from ! (hop ! (look ! 20 refl) (stop !)))) (tt, tt) $
@@ -144,11 +145,11 @@ module _ {M : Type 1} (𝓤 : URA M) (H : Heap 𝓤) (A : Atoms 𝓤) (W : Given
       close-ref ! tt (mem net.the-row) m {b = b} {o = o} $
       returns ! (look ! 21 refl) $
       frees-all ! (_ ∷ _ ∷ _ ∷ []) (just _ ∷ just _ ∷ just _ ∷ just _ ∷ just _ ∷ none ∷ none ∷ just _ ∷ just _ ∷ just _ ∷ []) $
-      by ! (gives 𝓤 H A (a-report .row) Ends κ q b o γ (word a-report r) r m r-is (delivered n m r p low e))))))))))))))))
+      by ! (gives 𝓤 H A (a-report .row) Ends κ q b o γ (word a-report r) r m r-is (delivered n m r p (lowest-is n (lengths n _ (k .is)) (asks .0) (asks .1) ∙ ap just (sym low)) e))))))))))))))))
 
 module _ {M : Type 1} (𝓤 : URA M) (H : Heap 𝓤) (A : Atoms 𝓤) (W : Given 𝓤 H A) (at-mem : Memory → SProp 𝓤) (run : Routine → Fun 𝓤) (𝓣 : Tables 𝓤 H)
     (known-act : Triple 𝓤 (𝓣 .C #engine·in-place·act) (Act 𝓤 H A at-mem run))
-    (known-lowest : Triple 𝓤 (𝓣 .C #engine·formed·lowest) (Lowest 𝓤 H A at-mem run)) where
+    (known-lowest : Triple 𝓤 (𝓣 .C #ruling·lowest) (Lowest 𝓤 H A at-mem run)) where
   meets : Meets 𝓤 H A this.signature (WpFn 𝓤 H (𝓣 .C) (𝓣 .Λ) code.function) (this.spec 𝓤 H A at-mem run)
   meets = framed 𝓤 H A W [] a-report (this.clauses 𝓤 H A at-mem run) (λ κs n a. (wellFormed n ≡ true) × (0 < n .waiting))
       (λ κs n a r m. reported m r ≡ counted (nextDelivery n))
@@ -162,4 +163,4 @@ deliver-spec 𝓤 H 𝓜 𝓖 𝓡 =
     (tables 𝓤 H 𝓜 𝓡 code.env .C) (tables 𝓤 H 𝓜 𝓡 code.env .Λ) #engine·in-place·deliver code.function (code.unfolded 𝓤 H 𝓜 𝓡)
     (meets 𝓤 H (𝓖 .A) (givenOf 𝓤 H 𝓜 𝓖) (𝓜 .mem) (𝓡 .run) (tablesOf 𝓤 H 𝓜 (tables 𝓤 H 𝓜 𝓡 code.env))
     (cited 𝓤 H (Act 𝓤 H (𝓖 .A) (𝓜 .mem) (𝓡 .run)) 𝓜 𝓡 code.env #engine·in-place·act act-def.routine code.calls-engine·in-place·act (act-met.met 𝓤 H 𝓜 𝓖 𝓡))
-    (cited 𝓤 H (Lowest 𝓤 H (𝓖 .A) (𝓜 .mem) (𝓡 .run)) 𝓜 𝓡 code.env #engine·formed·lowest lowest-def.routine code.calls-engine·formed·lowest (lowest-met.met 𝓤 H 𝓜 𝓖 𝓡)))
+    (cited 𝓤 H (Lowest 𝓤 H (𝓖 .A) (𝓜 .mem) (𝓡 .run)) 𝓜 𝓡 code.env #ruling·lowest lowest-def.routine code.calls-ruling·lowest (lowest-met.met 𝓤 H 𝓜 𝓖 𝓡)))
