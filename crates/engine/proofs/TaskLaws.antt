@@ -28,8 +28,8 @@ use Rattle.network.specs.Arrays.{live, wellFormed, held}
 use Rattle.network.proofs.Lengths.{Lengths}
 use Rattle.network.proofs.ArrayLaws.{formed, held-live}
 use Rattle.network.proofs.LiveLaws.{nodes-length}
-use Rattle.members.specs.Members.{ownerAsked}
-use Rattle.members.proofs.QuestionLaws.{owner-live}
+use Rattle.owners.specs.Owners.{ownerAsked}
+use Rattle.owners.proofs.QuestionLaws.{owner-live}
 use Rattle.script.specs.declared.Record.{Record}
 use Rattle.script.specs.declared.Record.the-variants as asks
 use Rattle.report.specs.declared.Report.{Report}

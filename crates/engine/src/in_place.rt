@@ -59,7 +59,7 @@ pub(crate) fn perform(network: &mut Network, task: Task) -> Report
         Task::Refuse(refusal) => report::refused(refusal),
         Task::Call(call) => act(network, call),
         Task::Owner { start, serial } => {
-            let answer = members::owner_of_record(*network, start, serial);
+            let answer = owners::owner_of_record(*network, start, serial);
             report::told(answer)
         }
         Task::Drain(budget) => drain(network, budget),

@@ -21,7 +21,7 @@ pub fn owner(network: Network, start: u8, serial: u32) -> Answer
     ensures { λ r. ⌜ answered r ≡ ownerOf network start serial ⌝ }
 {
     if network.is_well_formed() {
-        members::owner(network, start, serial)
+        owners::owner(network, start, serial)
     } else {
         Answer::Refused(Refusal::Malformed)
     }

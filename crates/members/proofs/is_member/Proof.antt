@@ -8,12 +8,12 @@ use Rattle.truth.specs.Tests.{any}
 use Rattle.sequence.specs.Sequence.{firstSeq}
 use Rattle.protocol.specs.State.{queueLimit, isAckTo, isInserted}
 use Rattle.access.specs.Sights.{nodeIn}
-use Rattle.members.proofs.TurnLaws.{least-limits}
+use Rattle.searches.proofs.Searches.{within}
 use Rattle.members.proofs.is_member.Statement.{statement}
 use Rattle.members.proofs.is_member.Tie as tie
 
 is-inserted-requires : tie.Need-is-inserted-requires
-is-inserted-requires c κs = let args = c .before .before .before .args in rw (c .least .ensures) (least-limits (args .t1 .waiting) queueLimit)
+is-inserted-requires c κs = within (c .before .before .before .args .t1 .waiting) queueLimit (c .least .ensures)
 
 returns : tie.Need-returns
 unfolding firstSeq
@@ -30,6 +30,5 @@ is-member-spec =
     (λ c. search needs)
     (λ c. search needs)
     (λ c κs. tt)
-    (λ c. search needs)
     is-inserted-requires
     returns)

@@ -11,7 +11,8 @@ use Rattle.truth.specs.Tests.{wordBelow}
 use Rattle.sequence.specs.Sequence.{firstSeq}
 use Rattle.node.specs.Shape.{capacity}
 use Rattle.protocol.specs.State.{queueLimit}
-use Rattle.members.proofs.TurnLaws.{least-limits, insertedBy, bit-put, bit-left, word-whole}
+use Rattle.searches.proofs.Searches.{within}
+use Rattle.members.proofs.TurnLaws.{insertedBy, bit-put, bit-left, word-whole}
 use Rattle.members.proofs.word.Statement.{statement}
 use Rattle.members.proofs.word.Tie as tie
 
@@ -28,12 +29,12 @@ loop-holds c = (omega arith, refl)
 small : (c : tie.In-loop Inv-loop μ-loop) → c .before .loop .i < capacity
 small c =
     let counted = c .before .before .before in
-    omega (arith, counted .least .ensures, least-limits (counted .before .before .before .args .network .count) capacity)
+    omega (arith, within (counted .before .before .before .args .network .count) capacity (counted .least .ensures))
 
 is-inserted-requires : tie.Need-is-inserted-requires Inv-loop μ-loop
 is-inserted-requires c κs =
     let cut = c .before .before .before in
-    rw (cut .least2 .ensures) (least-limits (cut .before .before .before .before .args .network .waiting) queueLimit)
+    within (cut .before .before .before .before .args .network .waiting) queueLimit (cut .least2 .ensures)
 
 loop-again : tie.Need-loop-again Inv-loop μ-loop
 unfolding firstSeq
@@ -66,13 +67,13 @@ word-spec =
     (λ c κs. tt)
     loop-holds
     (λ c. search needs)
+    (λ c. search needs)
     (λ c. omega (arith, small c))
     small
-    (λ c. search needs)
     is-inserted-requires
-    (λ c. search needs)
+    (λ c. omega (arith, small (c .before .before .before)))
     (λ c. small (c .before .before .before))
-    (λ c. search needs)
+    (λ c. omega (arith, small (c .before .before .before)))
     (λ c. search needs)
     loop-again
     returns)

@@ -60,7 +60,7 @@ use Rattle.stores.proofs.Reading.{a-network}
 use Rattle.ruling.proofs.Values.{IsOf, a-call, a-report, call-typed, report-typed}
 use Rattle.stores.proofs.Variants.{tag-of, field-of}
 use Rattle.engine.proofs.TaskValues.{a-refusal, a-serial, an-answer, a-task, refusal-typed, serial-typed, answer-typed, task-typed, by-task}
-use Rattle.members.specs.Members.{ownerAsked}
+use Rattle.owners.specs.Owners.{ownerAsked}
 use Rattle.engine.proofs.TaskLaws.{Reports, told-so, owner-told}
 use Rattle.report.proofs.refused as refuse
 use Rattle.report.proofs.refused.Symbol as refuse-def
@@ -70,10 +70,10 @@ use Rattle.engine.proofs.in_place.act as act
 use Rattle.engine.proofs.in_place.act.Symbol as act-def
 use Rattle.engine.proofs.in_place.act.Symbol.{name as #engine·in-place·act}
 use Rattle.engine.proofs.in_place.act.Met as act-met
-use Rattle.members.proofs.owner_of_record as owner
-use Rattle.members.proofs.owner_of_record.Symbol as owner-def
-use Rattle.members.proofs.owner_of_record.Symbol.{name as #members·owner-of-record}
-use Rattle.members.proofs.owner_of_record.Met as owner-met
+use Rattle.owners.proofs.owner_of_record as owner
+use Rattle.owners.proofs.owner_of_record.Symbol as owner-def
+use Rattle.owners.proofs.owner_of_record.Symbol.{name as #owners·owner-of-record}
+use Rattle.owners.proofs.owner_of_record.Met as owner-met
 use Rattle.report.proofs.told as tell
 use Rattle.report.proofs.told.Symbol as tell-def
 use Rattle.report.proofs.told.Symbol.{name as #report·told}
@@ -117,7 +117,7 @@ module _ {M : Type 1} (𝓤 : URA M) (H : Heap 𝓤) (A : Atoms 𝓤) (W : Given
 module _ {M : Type 1} (𝓤 : URA M) (H : Heap 𝓤) (A : Atoms 𝓤) (W : Given 𝓤 H A) (at-mem : Memory → SProp 𝓤) (run : Routine → Fun 𝓤) (𝓣 : Tables 𝓤 H)
     (known-refuse : Triple 𝓤 (𝓣 .C #report·refused) (Refuses 𝓤 H A at-mem run))
     (known-act : Triple 𝓤 (𝓣 .C #engine·in-place·act) (Act 𝓤 H A at-mem run))
-    (known-owner : Triple 𝓤 (𝓣 .C #members·owner-of-record) (Owns 𝓤 H A at-mem run))
+    (known-owner : Triple 𝓤 (𝓣 .C #owners·owner-of-record) (Owns 𝓤 H A at-mem run))
     (known-tell : Triple 𝓤 (𝓣 .C #report·told) (Tells 𝓤 H A at-mem run))
     (known-drain : Triple 𝓤 (𝓣 .C #engine·in-place·drain) (Drains 𝓤 H A at-mem run))
     (κ : Lft) (q : Share) (b o : ℕ) (γ : GName) (n : Network) (t : Task) where
@@ -205,7 +205,7 @@ module _ {M : Type 1} (𝓤 : URA M) (H : Heap 𝓤) (A : Atoms 𝓤) (W : Given
 module _ {M : Type 1} (𝓤 : URA M) (H : Heap 𝓤) (A : Atoms 𝓤) (W : Given 𝓤 H A) (at-mem : Memory → SProp 𝓤) (run : Routine → Fun 𝓤) (𝓣 : Tables 𝓤 H)
     (known-refuse : Triple 𝓤 (𝓣 .C #report·refused) (Refuses 𝓤 H A at-mem run))
     (known-act : Triple 𝓤 (𝓣 .C #engine·in-place·act) (Act 𝓤 H A at-mem run))
-    (known-owner : Triple 𝓤 (𝓣 .C #members·owner-of-record) (Owns 𝓤 H A at-mem run))
+    (known-owner : Triple 𝓤 (𝓣 .C #owners·owner-of-record) (Owns 𝓤 H A at-mem run))
     (known-tell : Triple 𝓤 (𝓣 .C #report·told) (Tells 𝓤 H A at-mem run))
     (known-drain : Triple 𝓤 (𝓣 .C #engine·in-place·drain) (Drains 𝓤 H A at-mem run)) where
   meets : Meets 𝓤 H A this.signature (WpFn 𝓤 H (𝓣 .C) (𝓣 .Λ) code.function) (this.spec 𝓤 H A at-mem run)
@@ -221,6 +221,6 @@ perform-spec 𝓤 H 𝓜 𝓖 𝓡 =
     (meets 𝓤 H (𝓖 .A) (givenOf 𝓤 H 𝓜 𝓖) (𝓜 .mem) (𝓡 .run) (tablesOf 𝓤 H 𝓜 (tables 𝓤 H 𝓜 𝓡 code.env))
     (cited 𝓤 H (Refuses 𝓤 H (𝓖 .A) (𝓜 .mem) (𝓡 .run)) 𝓜 𝓡 code.env #report·refused refuse-def.routine code.calls-report·refused (refuse-met.met 𝓤 H 𝓜 𝓖 𝓡))
     (cited 𝓤 H (Act 𝓤 H (𝓖 .A) (𝓜 .mem) (𝓡 .run)) 𝓜 𝓡 code.env #engine·in-place·act act-def.routine code.calls-engine·in-place·act (act-met.met 𝓤 H 𝓜 𝓖 𝓡))
-    (cited 𝓤 H (Owns 𝓤 H (𝓖 .A) (𝓜 .mem) (𝓡 .run)) 𝓜 𝓡 code.env #members·owner-of-record owner-def.routine code.calls-members·owner-of-record (owner-met.met 𝓤 H 𝓜 𝓖 𝓡))
+    (cited 𝓤 H (Owns 𝓤 H (𝓖 .A) (𝓜 .mem) (𝓡 .run)) 𝓜 𝓡 code.env #owners·owner-of-record owner-def.routine code.calls-owners·owner-of-record (owner-met.met 𝓤 H 𝓜 𝓖 𝓡))
     (cited 𝓤 H (Tells 𝓤 H (𝓖 .A) (𝓜 .mem) (𝓡 .run)) 𝓜 𝓡 code.env #report·told tell-def.routine code.calls-report·told (tell-met.met 𝓤 H 𝓜 𝓖 𝓡))
     (cited 𝓤 H (Drains 𝓤 H (𝓖 .A) (𝓜 .mem) (𝓡 .run)) 𝓜 𝓡 code.env #engine·in-place·drain drain-def.routine code.calls-engine·in-place·drain (drain-met.met 𝓤 H 𝓜 𝓖 𝓡)))

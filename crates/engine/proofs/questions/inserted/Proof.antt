@@ -3,7 +3,7 @@ use borrow.Author.Needs.{needs}
 use mathlib.Core.Path.{sym, _∙_}
 use borrow.Author.Tests.{not-true, not-false}
 use Rattle.network.proofs.Lengths.{lengths}
-use Rattle.members.proofs.QuestionLaws.{inserted-told}
+use Rattle.members.proofs.MemberLaws.{inserted-told}
 use Rattle.engine.specs.Answers.{insertedOf}
 use Rattle.engine.proofs.questions.inserted.Statement.{statement}
 use Rattle.engine.proofs.questions.inserted.Tie as tie

@@ -2,7 +2,7 @@
 use borrow.Author.Needs.{needs}
 use mathlib.Core.Path.{sym, _∙_}
 use Rattle.network.proofs.Lengths.{lengths}
-use Rattle.members.proofs.QuestionLaws.{owner-live}
+use Rattle.owners.proofs.QuestionLaws.{owner-live}
 use Rattle.engine.specs.Answers.{ownerOf}
 use Rattle.engine.proofs.questions.owner.Statement.{statement}
 use Rattle.engine.proofs.questions.owner.Tie as tie

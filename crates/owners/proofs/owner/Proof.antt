@@ -1,12 +1,12 @@
--- `members::owner` meets its contract: each refusal at its test, and else the walk. Assumes nothing.
+-- `owners::owner` meets its contract: each refusal at its test, and else the walk. Assumes nothing.
 use borrow.Author.Needs.{needs}
 use mathlib.Core.Path.{_≡_, sym, _∙_}
 use mathlib.Core.Bool.{true}
 use lib.Dec.{ltb}
 use borrow.Author.Tests.{lt-ltb, le-ltb, not-true, not-false}
 use Rattle.serial.specs.Serial.{inRange}
-use Rattle.members.proofs.owner.Statement.{statement}
-use Rattle.members.proofs.owner.Tie as tie
+use Rattle.owners.proofs.owner.Statement.{statement}
+use Rattle.owners.proofs.owner.Tie as tie
 
 returns : tie.Need-returns
 returns c = simp (le-ltb _ _ (c .if1 .taken))

@@ -1,8 +1,8 @@
--- `members::refuse_serial` meets its contract. Assumes nothing.
+-- `owners::refuse_serial` meets its contract. Assumes nothing.
 use native.Mathlib.Omega.{arith}
 use borrow.Author.Tests.{lt-ltb, le-ltb}
-use Rattle.members.proofs.refuse_serial.Statement.{statement}
-use Rattle.members.proofs.refuse_serial.Tie as tie
+use Rattle.owners.proofs.refuse_serial.Statement.{statement}
+use Rattle.owners.proofs.refuse_serial.Tie as tie
 
 returns : tie.Need-returns
 returns c = let start = c .before in rw (le-ltb (start .args .start) (start .args .count) (omega arith))

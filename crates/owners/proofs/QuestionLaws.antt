@@ -1,33 +1,28 @@
--- The rules of a question, by what the arrays of a well-formed network are asked: who is inserted, with the number of the word's ones, and what
--- each rule of the owner refuses, in their order, before the walk. Assumes nothing.
+-- The rules of the owner, by what the arrays of a well-formed network are asked: what each refuses, in their order, before the walk. Assumes
+-- nothing.
 use mathlib.Core.Path.{_≡_, sym, ap, _∙_}
 use mathlib.Core.Logic.{⊎-elim}
 use mathlib.Core.Bool.{true, false, cond}
 use Prim.Native.Nat.{ℕ, _≤_, _<_}
-use lib.ListN.{length}
 use lib.Dec.{ltb}
 use borrow.Author.Tests.{ltb-true, ltb-false, lt-ltb, le-ltb}
 use Rattle.truth.proofs.TestLaws.{decided}
-use Rattle.truth.proofs.WordLaws.{word-ones}
 use Rattle.refusal.specs.Code.{plain}
-use Rattle.refusal.specs.Rules.{Coded, done, no as refusal}
+use Rattle.refusal.specs.Rules.{no as refusal}
 use Rattle.serial.specs.Serial.{inRange}
-use Rattle.protocol.specs.declared.Reply.{Reply}
-use Rattle.protocol.specs.State.{declared, inserted}
-use Rattle.protocol.specs.Questions.{walked, insertedOf, ownerOf}
+use Rattle.protocol.specs.State.{declared}
+use Rattle.protocol.specs.Questions.{walked, ownerOf}
 use Rattle.network.specs.declared.Network.{Network}
 use Rattle.network.specs.Arrays.{live, wellFormed}
 use Rattle.network.proofs.Lengths.{Lengths}
 use Rattle.network.proofs.ArrayLaws.{formed}
 use Rattle.network.proofs.LiveLaws.{nodes-length}
-use Rattle.members.specs.Members.{memberIn, insertedIn, walkFrom, ownerIn}
-use Rattle.members.proofs.MemberLaws.{member-live, word-live, walk-live}
+use Rattle.members.specs.Members.{memberIn}
+use Rattle.members.proofs.MemberLaws.{member-live}
+use Rattle.owners.specs.Owners.{walkFrom, ownerIn}
+use Rattle.owners.proofs.WalkLaws.{walk-live}
 
 module _ (n : Network) (l : Lengths n) (h : wellFormed n ≡ true) where
-  pub inserted-told : insertedIn n ≡ insertedOf (live n)
-  unfolding insertedOf
-  inserted-told = rw (formed n h .lists, word-live n l h, word-ones (length (live n .nodes)) (inserted (live n)))
-
   module _ (start serial : ℕ) where
     pub start-undeclared : n .count ≤ start → ownerOf (live n) start serial ≡ refusal (plain 5)
     unfolding ownerOf

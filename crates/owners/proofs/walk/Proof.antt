@@ -1,4 +1,4 @@
--- `members::walk` meets its contract: from where the walk stands, with the hops left to make, the owner is the same as from its start. The
+-- `owners::walk` meets its contract: from where the walk stands, with the hops left to make, the owner is the same as from its start. The
 -- measure is the hops left. Assumes nothing.
 use Prim.Native.Nat.{_≤_, _-_}
 use mathlib.Core.Path.{_≡_, refl, sym, ap, _∙_}
@@ -8,10 +8,10 @@ use borrow.Author.Needs.{needs}
 use Rattle.sequence.specs.Sequence.{firstSeq}
 use Rattle.protocol.specs.Questions.{walked}
 use Rattle.access.specs.Sights.{nodeIn}
-use Rattle.members.specs.Members.{walkFrom}
-use Rattle.members.proofs.TurnLaws.{standing, link-missing, owner-found, goes-on, hops-spent}
-use Rattle.members.proofs.walk.Statement.{statement}
-use Rattle.members.proofs.walk.Tie as tie
+use Rattle.owners.specs.Owners.{walkFrom}
+use Rattle.owners.proofs.TurnLaws.{standing, link-missing, owner-found, goes-on, hops-spent}
+use Rattle.owners.proofs.walk.Statement.{statement}
+use Rattle.owners.proofs.walk.Tie as tie
 
 abbrev Inv-loop : tie.InvT-loop
 Inv-loop start serial network from node₀ here₀ hops₀ node here hops =

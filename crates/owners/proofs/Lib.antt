@@ -1,0 +1,3 @@
+pub mod QuestionLaws
+pub mod TurnLaws
+pub mod WalkLaws
