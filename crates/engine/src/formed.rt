@@ -5,8 +5,6 @@ ghost use Rattle.refusal.specs.Code.{reason};
 ghost use Rattle.network.specs.Arrays.{wellFormed};
 ghost use Rattle.engine.specs.Outcomes.{called, counted, refused, applyOf, drainOf};
 use crate::Called;
-use access::Change;
-use decision::Decision;
 use network::Network;
 use protocol::Answer;
 use protocol::Call;
@@ -24,19 +22,6 @@ pub(crate) fn refuse(network: Network, refusal: Refusal) -> Called
             posted: 0,
         },
     }
-}
-
-// The two parts of a decision. A function that is walked by hand calls these, and reads no field.
-pub(crate) fn change_in(decision: Decision) -> Change
-    ensures { λ r. ⌜ r ≡ decision .change ⌝ }
-{
-    decision.change
-}
-
-pub(crate) fn report_in(decision: Decision) -> Report
-    ensures { λ r. ⌜ r ≡ decision .report ⌝ }
-{
-    decision.report
 }
 
 pub(crate) fn apply(network: Network, call: Call) -> Called

@@ -1,7 +1,7 @@
--- `decision::answer_of` meets its contract, by the verdict. Assumes nothing.
+-- `verdicts::answer_of` meets its contract, by the verdict. Assumes nothing.
 use borrow.Author.Needs.{needs}
-use Rattle.decision.proofs.answer_of.Statement.{statement}
-use Rattle.decision.proofs.answer_of.Tie as tie
+use Rattle.verdicts.proofs.answer_of.Statement.{statement}
+use Rattle.verdicts.proofs.answer_of.Tie as tie
 
 returns : tie.Need-returns
 returns c = rw (c .before .verdict .given .1)

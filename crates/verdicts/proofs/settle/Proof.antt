@@ -1,10 +1,10 @@
--- `decision::settle` meets its contract, by what the check says. Assumes nothing.
+-- `verdicts::settle` meets its contract, by what the check says. Assumes nothing.
 use borrow.Author.Needs.{needs}
 use mathlib.Core.Path.{sym, ap, _∙_}
 use Rattle.refusal.specs.Rules.{checked, settled}
-use Rattle.decision.specs.Decisions.{decided, turnedAway}
-use Rattle.decision.proofs.settle.Statement.{statement}
-use Rattle.decision.proofs.settle.Tie as tie
+use Rattle.verdicts.specs.Verdicts.{decided, turnedAway}
+use Rattle.verdicts.proofs.settle.Statement.{statement}
+use Rattle.verdicts.proofs.settle.Tie as tie
 
 returns : tie.Need-returns
 returns c =
