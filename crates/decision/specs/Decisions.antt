@@ -16,7 +16,7 @@ use Rattle.protocol.specs.declared.Order.the-variants.{Declare, Create, Join, L
 use Rattle.access.specs.declared.Sight.{Sight}
 use Rattle.access.specs.declared.Arrival.{Arrival}
 use Rattle.searches.specs.declared.Found.{Found}
-use Rattle.verdicts.specs.Verdicts.{Decided, turnedAway, adding, stepping, delivering, afterStep, roomTests}
+use Rattle.settling.specs.Settling.{Decided, turnedAway, adding, stepping, delivering, afterStep, roomTests}
 
 -- where a number is not declared
 abbrev pub unless : Bool → Option Reason → Option Reason

@@ -1,8 +1,8 @@
 // What an order or a delivery comes to, from the few values that its rules look at: its refusal, or the change to be carried out and what is told
 // of it. No network is handed in and none is changed, so that a call by value and a call in place are the same decision. `specs/` says it, with the steps
-// of the crate `node` and what `verdicts` makes of them; that this is what paper 01's rules say of a well-formed network is proved in the crate `engine`.
+// of the crate `node` and what `settling` makes of them; that this is what paper 01's rules say of a well-formed network is proved in the crate `engine`.
 ghost use mathlib.Core.Path.{_≡_};
-ghost use Rattle.verdicts.specs.Verdicts.{decided};
+ghost use Rattle.settling.specs.Settling.{decided};
 ghost use Rattle.decision.specs.Decisions.{declareDecision, createDecision, joinDecision, leaveDecision, orderDecision, deliveryDecision};
 use access::Arrival;
 use access::Sight;
@@ -12,7 +12,7 @@ use protocol::Order;
 use refusal::Check;
 use refusal::Refusal;
 use searches::Found;
-use verdicts::Decision;
+use settling::Decision;
 
 fn decide_declare(key: u32, count: u8, taken: bool) -> Decision
     ensures { λ r. ⌜ decided r ≡ declareDecision key count taken ⌝ }
@@ -26,7 +26,7 @@ fn decide_declare(key: u32, count: u8, taken: bool) -> Decision
             refusal::rule(taken, Refusal::KeyTaken, Check::Clear),
         ),
     );
-    verdicts::settle(check, verdicts::adding(count, key))
+    settling::settle(check, settling::adding(count, key))
 }
 
 fn decide_create(number: u8, count: u8, node: Node, found: Found) -> Decision
@@ -41,7 +41,7 @@ fn decide_create(number: u8, count: u8, node: Node, found: Found) -> Decision
             refusal::rule(found.notice, Refusal::NoticeWaiting, Check::Clear),
         ),
     );
-    verdicts::settle(check, verdicts::stepping(number, node.create(number)))
+    settling::settle(check, settling::stepping(number, node.create(number)))
 }
 
 fn decide_join(number: u8, left: u8, right: u8, sight: Sight, notice: bool) -> Decision
@@ -53,22 +53,22 @@ fn decide_join(number: u8, left: u8, right: u8, sight: Sight, notice: bool) -> D
     let beyond = sight.right;
     let step = node.join(
         number,
-        verdicts::peer(left, before),
-        verdicts::peer(right, beyond),
+        settling::peer(left, before),
+        settling::peer(right, beyond),
     );
     let verdict = step.verdict;
     let posts = step.posts;
     let rest = refusal::rule(
         notice,
         Refusal::NoticeWaiting,
-        verdicts::check_room(sight.waiting, posts),
+        settling::check_room(sight.waiting, posts),
     );
     let check = refusal::rule(
         !((number < count) & ((left < count) & (right < count))),
         Refusal::Undeclared,
-        verdicts::after_step(verdict, rest),
+        settling::after_step(verdict, rest),
     );
-    verdicts::settle(check, verdicts::stepping(number, step))
+    settling::settle(check, settling::stepping(number, step))
 }
 
 fn decide_leave(number: u8, count: u8, waiting: u8, node: Node) -> Decision
@@ -80,9 +80,9 @@ fn decide_leave(number: u8, count: u8, waiting: u8, node: Node) -> Decision
     let check = refusal::rule(
         !(number < count),
         Refusal::Undeclared,
-        verdicts::after_step(verdict, verdicts::check_room(waiting, posts)),
+        settling::after_step(verdict, settling::check_room(waiting, posts)),
     );
-    verdicts::settle(check, verdicts::stepping(number, step))
+    settling::settle(check, settling::stepping(number, step))
 }
 
 // An order, from what it looks at.
@@ -117,7 +117,7 @@ pub fn decide_delivery(place: u8, arrival: Arrival) -> Decision
     let check = refusal::rule(
         !(place < waiting),
         Refusal::NoMessage,
-        verdicts::check_room(verdicts::one_less(waiting), posts),
+        settling::check_room(settling::one_less(waiting), posts),
     );
-    verdicts::settle(check, verdicts::delivering(place, to, step))
+    settling::settle(check, settling::delivering(place, to, step))
 }

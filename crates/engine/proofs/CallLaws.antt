@@ -48,9 +48,9 @@ use Rattle.access.proofs.Shift.{length-without}
 use Rattle.access.proofs.Stores.{added-held, closed-held, stepped-held}
 use Rattle.searches.specs.declared.Found.{Found}
 use Rattle.searches.specs.Searches.{least, keyIsTaken as keyIsTakenIn, someStands, noticeWaits as noticeWaitsIn}
-use Rattle.verdicts.specs.declared.Decision.{Decision}
+use Rattle.settling.specs.declared.Decision.{Decision}
 use Rattle.report.specs.declared.Report.{Report}
-use Rattle.verdicts.specs.Verdicts.{Decided, decided as decidedBy, spotsOf, turnedAway, adding, stepping, delivering, afterStep, roomTests}
+use Rattle.settling.specs.Settling.{Decided, decided as decidedBy, spotsOf, turnedAway, adding, stepping, delivering, afterStep, roomTests}
 use Rattle.decision.specs.Decisions.{unless, declareTests, createTests, joinStep, leaveTests, receiveStep, deliverTests}
 use Rattle.ruling.specs.Rulings.{decisionOn}
 use Rattle.engine.specs.Outcomes.{counted, reported, inArrays, applyOf}

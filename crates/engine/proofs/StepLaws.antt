@@ -36,7 +36,7 @@ use Rattle.protocol.specs.Calls.{isFull, peerAt, joinRules as joinCallRules, le
 use Rattle.protocol.proofs.Facts.{WellFormed, tested}
 use Rattle.protocol.proofs.Waiting.{taken}
 use Rattle.protocol.proofs.Cases.{received}
-use Rattle.verdicts.specs.Verdicts.{afterStep, roomTests}
+use Rattle.settling.specs.Settling.{afterStep, roomTests}
 
 -- ---- how much a step posts
 not-out : (status : Status) → isIn status ≡ true → isOut status ≡ false

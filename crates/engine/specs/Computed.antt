@@ -10,7 +10,7 @@ use Rattle.protocol.specs.Drain.{lowest}
 use Rattle.network.specs.declared.Network.{Network}
 use Rattle.network.specs.Arrays.{live, wellFormed}
 use Rattle.access.specs.Changes.{committed}
-use Rattle.verdicts.specs.Verdicts.{Decided}
+use Rattle.settling.specs.Settling.{Decided}
 use Rattle.script.specs.declared.Record.the-variants as record′
 use Rattle.task.specs.declared.Task.{Task}
 use Rattle.task.specs.declared.Task.the-variants as task

@@ -18,9 +18,9 @@ fn act(network: &mut Network, call: Call) -> Report
     ensures { λ r. ⌜ reported (now (network .exit)) r ≡ counted (applyOf (now (network .entry)) call) ⌝ }
 {
     let decision = ruling::decide_in_place(network, call);
-    let change = verdicts::change_in(decision);
+    let change = settling::change_in(decision);
     stores::commit(network, change);
-    verdicts::report_in(decision)
+    settling::report_in(decision)
 }
 
 // A delivery at the lowest place where one is not refused. Only a full queue has a place where a delivery finds no room, so that else the first

@@ -12,7 +12,7 @@ use Rattle.access.specs.declared.Arrival.{Arrival}
 use Rattle.access.specs.Sights.{sightOf, arrivalOf}
 use Rattle.searches.specs.declared.Found.{Found}
 use Rattle.searches.specs.Searches.{foundOf}
-use Rattle.verdicts.specs.Verdicts.{Decided, spotsOf}
+use Rattle.settling.specs.Settling.{Decided, spotsOf}
 use Rattle.decision.specs.Decisions.{orderDecision, deliveryDecision}
 use Rattle.ruling.specs.Rulings.{decisionOn}
 

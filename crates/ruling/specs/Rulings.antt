@@ -4,7 +4,7 @@ use Rattle.protocol.specs.declared.Call.the-variants.{Order, Deliver}
 use Rattle.network.specs.declared.Network.{Network}
 use Rattle.access.specs.Sights.{sightOf, arrivalOf}
 use Rattle.searches.specs.Searches.{foundOf}
-use Rattle.verdicts.specs.Verdicts.{Decided, spotsOf}
+use Rattle.settling.specs.Settling.{Decided, spotsOf}
 use Rattle.decision.specs.Decisions.{orderDecision, deliveryDecision}
 
 unfoldable pub decisionOn : Network → Call → Decided

@@ -1,10 +1,10 @@
 // A decision on a network where it lies: the network is lent to the functions that read it, and the rules decide by value. Walked by hand.
 ghost use mathlib.Core.Path.{_≡_};
-ghost use Rattle.verdicts.specs.Verdicts.{decided};
+ghost use Rattle.settling.specs.Settling.{decided};
 ghost use Rattle.ruling.specs.Rulings.{decisionOn};
 use network::Network;
 use protocol::Call;
-use verdicts::Decision;
+use settling::Decision;
 
 // What a call comes to, from what it looks at where it lies.
 pub fn decide(network: &mut Network, call: Call) -> Decision
@@ -12,7 +12,7 @@ pub fn decide(network: &mut Network, call: Call) -> Decision
 {
     match call {
         Call::Order(order) => {
-            let spots = verdicts::spots(order);
+            let spots = settling::spots(order);
             let sight = stores::look(network, spots);
             let found = stores::find(network, order);
             decision::decide_order(order, sight, found)

@@ -6,7 +6,7 @@ use mathlib.Core.Option.{some}
 use lib.Dec.{ltb}
 use Rattle.refusal.specs.Code.{plain}
 use Rattle.refusal.specs.Rules.{settled}
-use Rattle.verdicts.specs.Verdicts.{turnedAway, stepping}
+use Rattle.settling.specs.Settling.{turnedAway, stepping}
 use Rattle.decision.proofs.decide_create.Statement.{statement}
 use Rattle.decision.proofs.decide_create.Tie as tie
 

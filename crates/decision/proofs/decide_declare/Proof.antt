@@ -7,7 +7,7 @@ use lib.Dec.{ltb}
 use Rattle.refusal.specs.Code.{plain}
 use Rattle.refusal.specs.Rules.{settled}
 use Rattle.node.specs.Shape.{capacity}
-use Rattle.verdicts.specs.Verdicts.{turnedAway}
+use Rattle.settling.specs.Settling.{turnedAway}
 use Rattle.decision.proofs.decide_declare.Statement.{statement}
 use Rattle.decision.proofs.decide_declare.Tie as tie
 

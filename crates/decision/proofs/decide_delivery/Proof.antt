@@ -9,7 +9,7 @@ use Rattle.refusal.specs.Code.{plain}
 use Rattle.refusal.specs.Rules.{_when_, first, settled}
 use mathlib.Core.List.{_∷_}
 use Rattle.node.specs.Actions.{Effect, effect}
-use Rattle.verdicts.specs.Verdicts.{turnedAway, delivering, roomTests}
+use Rattle.settling.specs.Settling.{turnedAway, delivering, roomTests}
 use Rattle.decision.proofs.decide_delivery.Statement.{statement}
 use Rattle.decision.proofs.decide_delivery.Tie as tie
 

@@ -8,7 +8,7 @@ use Rattle.refusal.specs.Code.{plain}
 use Rattle.refusal.specs.Rules.{_when_, first, settled}
 use mathlib.Core.List.{_∷_}
 use Rattle.node.specs.Actions.{Effect, effect, joinOf}
-use Rattle.verdicts.specs.Verdicts.{turnedAway, stepping, afterStep, roomTests}
+use Rattle.settling.specs.Settling.{turnedAway, stepping, afterStep, roomTests}
 use Rattle.decision.specs.Decisions.{unless}
 use Rattle.decision.proofs.decide_join.Statement.{statement}
 use Rattle.decision.proofs.decide_join.Tie as tie

@@ -7,7 +7,7 @@ use lib.Dec.{ltb}
 use Rattle.refusal.specs.Code.{plain}
 use Rattle.refusal.specs.Rules.{first, settled}
 use Rattle.node.specs.Actions.{Effect, effect}
-use Rattle.verdicts.specs.Verdicts.{turnedAway, stepping, afterStep, roomTests}
+use Rattle.settling.specs.Settling.{turnedAway, stepping, afterStep, roomTests}
 use Rattle.decision.proofs.decide_leave.Statement.{statement}
 use Rattle.decision.proofs.decide_leave.Tie as tie
 

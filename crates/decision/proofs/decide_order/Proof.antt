@@ -2,7 +2,7 @@
 use borrow.Author.Needs.{needs}
 use mathlib.Core.Path.{sym, ap, _∙_}
 use Rattle.protocol.specs.declared.Order.{Order}
-use Rattle.verdicts.specs.Verdicts.{Decided}
+use Rattle.settling.specs.Settling.{Decided}
 use Rattle.decision.specs.Decisions.{orderDecision}
 use Rattle.decision.proofs.decide_order.Statement.{statement}
 use Rattle.decision.proofs.decide_order.Tie as tie

@@ -51,18 +51,18 @@ use Rattle.stores.proofs.Places.{lies}
 use Rattle.stores.proofs.Reading.{some-spots, a-sight, an-arrival, a-find, an-order}
 use Rattle.stores.proofs.Calling.{calls-plain}
 use Rattle.stores.proofs.Lending.{Lends, lends, calls-giving}
-use Rattle.verdicts.specs.declared.Decision.{Decision}
-use Rattle.verdicts.specs.Verdicts.{decided, spotsOf}
+use Rattle.settling.specs.declared.Decision.{Decision}
+use Rattle.settling.specs.Settling.{decided, spotsOf}
 use Rattle.decision.specs.Decisions.{orderDecision, deliveryDecision}
 use Rattle.ruling.specs.Rulings.{decisionOn}
-use Rattle.verdicts.proofs.Decision.Laws as decision-laws
+use Rattle.settling.proofs.Decision.Laws as decision-laws
 use Rattle.stores.proofs.Variants.{tag-of, field-of}
 use Rattle.ruling.proofs.RulingLaws.{order-decided, delivery-decided}
 use Rattle.ruling.proofs.Values.{a-call, a-decision, IsOf, order-typed, call-typed, spots-typed, sight-typed, arrival-typed, found-typed, decision-typed, by-call}
-use Rattle.verdicts.proofs.spots as spots
-use Rattle.verdicts.proofs.spots.Symbol as spots-def
-use Rattle.verdicts.proofs.spots.Symbol.{name as #verdicts·spots}
-use Rattle.verdicts.proofs.spots.Met as spots-met
+use Rattle.settling.proofs.spots as spots
+use Rattle.settling.proofs.spots.Symbol as spots-def
+use Rattle.settling.proofs.spots.Symbol.{name as #settling·spots}
+use Rattle.settling.proofs.spots.Met as spots-met
 use Rattle.stores.proofs.look as look
 use Rattle.stores.proofs.look.Symbol as look-def
 use Rattle.stores.proofs.look.Symbol.{name as #stores·look}
@@ -126,7 +126,7 @@ module _ {M : Type 1} (𝓤 : URA M) (H : Heap 𝓤) (A : Atoms 𝓤) (W : Given
 
 -- ---- the walk
 module _ {M : Type 1} (𝓤 : URA M) (H : Heap 𝓤) (A : Atoms 𝓤) (W : Given 𝓤 H A) (at-mem : Memory → SProp 𝓤) (run : Routine → Fun 𝓤) (𝓣 : Tables 𝓤 H)
-    (known-spots : Triple 𝓤 (𝓣 .C #verdicts·spots) (Spots-of 𝓤 H A at-mem run))
+    (known-spots : Triple 𝓤 (𝓣 .C #settling·spots) (Spots-of 𝓤 H A at-mem run))
     (known-look : Triple 𝓤 (𝓣 .C #stores·look) (Look 𝓤 H A at-mem run))
     (known-find : Triple 𝓤 (𝓣 .C #stores·find) (Find 𝓤 H A at-mem run))
     (known-order : Triple 𝓤 (𝓣 .C #decision·decide-order) (DecideOrder 𝓤 H A at-mem run))
@@ -202,7 +202,7 @@ module _ {M : Type 1} (𝓤 : URA M) (H : Heap 𝓤) (A : Atoms 𝓤) (W : Given
       by ! (gives 𝓤 H A (a-decision .row) Ends κ q b o γ (word a-decision d) d m d-is (delivery-decided n c p v (decided d) e (meets .0) says, meets .1))))))))))))))))))
 
 module _ {M : Type 1} (𝓤 : URA M) (H : Heap 𝓤) (A : Atoms 𝓤) (W : Given 𝓤 H A) (at-mem : Memory → SProp 𝓤) (run : Routine → Fun 𝓤) (𝓣 : Tables 𝓤 H)
-    (known-spots : Triple 𝓤 (𝓣 .C #verdicts·spots) (Spots-of 𝓤 H A at-mem run))
+    (known-spots : Triple 𝓤 (𝓣 .C #settling·spots) (Spots-of 𝓤 H A at-mem run))
     (known-look : Triple 𝓤 (𝓣 .C #stores·look) (Look 𝓤 H A at-mem run))
     (known-find : Triple 𝓤 (𝓣 .C #stores·find) (Find 𝓤 H A at-mem run))
     (known-order : Triple 𝓤 (𝓣 .C #decision·decide-order) (DecideOrder 𝓤 H A at-mem run))
@@ -219,7 +219,7 @@ decide-spec 𝓤 H 𝓜 𝓖 𝓡 =
     entered 𝓤 H (tripleOf 𝓤 H (𝓖 .A) this.signature (this.spec 𝓤 H (𝓖 .A) (𝓜 .mem) (𝓡 .run)))
     (tables 𝓤 H 𝓜 𝓡 code.env .C) (tables 𝓤 H 𝓜 𝓡 code.env .Λ) #ruling·in-place·decide code.function (code.unfolded 𝓤 H 𝓜 𝓡)
     (meets 𝓤 H (𝓖 .A) (givenOf 𝓤 H 𝓜 𝓖) (𝓜 .mem) (𝓡 .run) (tablesOf 𝓤 H 𝓜 (tables 𝓤 H 𝓜 𝓡 code.env))
-    (cited 𝓤 H (Spots-of 𝓤 H (𝓖 .A) (𝓜 .mem) (𝓡 .run)) 𝓜 𝓡 code.env #verdicts·spots spots-def.routine code.calls-verdicts·spots (spots-met.met 𝓤 H 𝓜 𝓖 𝓡))
+    (cited 𝓤 H (Spots-of 𝓤 H (𝓖 .A) (𝓜 .mem) (𝓡 .run)) 𝓜 𝓡 code.env #settling·spots spots-def.routine code.calls-settling·spots (spots-met.met 𝓤 H 𝓜 𝓖 𝓡))
     (cited 𝓤 H (Look 𝓤 H (𝓖 .A) (𝓜 .mem) (𝓡 .run)) 𝓜 𝓡 code.env #stores·look look-def.routine code.calls-stores·look (look-met.met 𝓤 H 𝓜 𝓖 𝓡))
     (cited 𝓤 H (Find 𝓤 H (𝓖 .A) (𝓜 .mem) (𝓡 .run)) 𝓜 𝓡 code.env #stores·find find-def.routine code.calls-stores·find (find-met.met 𝓤 H 𝓜 𝓖 𝓡))
     (cited 𝓤 H (DecideOrder 𝓤 H (𝓖 .A) (𝓜 .mem) (𝓡 .run)) 𝓜 𝓡 code.env #decision·decide-order decide-order-def.routine code.calls-decision·decide-order (decide-order-met.met 𝓤 H 𝓜 𝓖 𝓡))

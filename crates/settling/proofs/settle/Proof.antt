@@ -1,10 +1,10 @@
--- `verdicts::settle` meets its contract, by what the check says. Assumes nothing.
+-- `settling::settle` meets its contract, by what the check says. Assumes nothing.
 use borrow.Author.Needs.{needs}
 use mathlib.Core.Path.{sym, ap, _∙_}
 use Rattle.refusal.specs.Rules.{checked, settled}
-use Rattle.verdicts.specs.Verdicts.{decided, turnedAway}
-use Rattle.verdicts.proofs.settle.Statement.{statement}
-use Rattle.verdicts.proofs.settle.Tie as tie
+use Rattle.settling.specs.Settling.{decided, turnedAway}
+use Rattle.settling.proofs.settle.Statement.{statement}
+use Rattle.settling.proofs.settle.Tie as tie
 
 returns : tie.Need-returns
 returns c =

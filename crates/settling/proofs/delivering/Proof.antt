@@ -1,9 +1,9 @@
--- `verdicts::delivering` meets its contract: the change, and what is told of the step. Assumes nothing.
+-- `settling::delivering` meets its contract: the change, and what is told of the step. Assumes nothing.
 use borrow.Author.Needs.{needs}
 use Rattle.node.specs.Actions.{effect}
 use Rattle.access.specs.Changes.{delivers}
-use Rattle.verdicts.proofs.delivering.Statement.{statement}
-use Rattle.verdicts.proofs.delivering.Tie as tie
+use Rattle.settling.proofs.delivering.Statement.{statement}
+use Rattle.settling.proofs.delivering.Tie as tie
 
 returns : tie.Need-returns
 returns c =

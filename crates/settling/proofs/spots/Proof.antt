@@ -1,9 +1,9 @@
--- `verdicts::spots` meets its contract, by the order. Assumes nothing.
+-- `settling::spots` meets its contract, by the order. Assumes nothing.
 use borrow.Author.Needs.{needs}
 use mathlib.Core.Path.{sym, ap, _∙_}
-use Rattle.verdicts.specs.Verdicts.{spotsOf}
-use Rattle.verdicts.proofs.spots.Statement.{statement}
-use Rattle.verdicts.proofs.spots.Tie as tie
+use Rattle.settling.specs.Settling.{spotsOf}
+use Rattle.settling.proofs.spots.Statement.{statement}
+use Rattle.settling.proofs.spots.Tie as tie
 
 returns : tie.Need-returns
 returns c = c .spots-at .ensures ∙ ap spotsOf (sym (c .before .enum-told .given .1))

@@ -1,11 +1,11 @@
--- `verdicts::adding` meets its contract: the node is as declared. Assumes nothing.
+-- `settling::adding` meets its contract: the node is as declared. Assumes nothing.
 use borrow.Author.Needs.{needs}
 use mathlib.Core.Path.{ap}
 use Rattle.refusal.specs.Rules.{done}
 use Rattle.protocol.specs.declared.Reply.the-variants.{Declared}
 use Rattle.access.specs.Changes.{adds}
-use Rattle.verdicts.proofs.adding.Statement.{statement}
-use Rattle.verdicts.proofs.adding.Tie as tie
+use Rattle.settling.proofs.adding.Statement.{statement}
+use Rattle.settling.proofs.adding.Tie as tie
 
 returns : tie.Need-returns
 returns c = λ i. record { change = adds (c .declared .ensures i); posted = 0; said = done (Declared (c .before .args .number) (c .before .args .key)) }

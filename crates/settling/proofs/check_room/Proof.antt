@@ -1,11 +1,11 @@
--- `verdicts::check_room` meets its contract: one rule. Assumes nothing.
+-- `settling::check_room` meets its contract: one rule. Assumes nothing.
 use mathlib.Core.Path.{_∙_}
 use mathlib.Core.Bool.{not, cond}
 use mathlib.Core.Option.{none, some}
 use borrow.Author.Needs.{needs}
 use Rattle.refusal.specs.Code.{plain}
-use Rattle.verdicts.proofs.check_room.Statement.{statement}
-use Rattle.verdicts.proofs.check_room.Tie as tie
+use Rattle.settling.proofs.check_room.Statement.{statement}
+use Rattle.settling.proofs.check_room.Tie as tie
 
 returns : tie.Need-returns
 returns c = c .rule .ensures ∙ (λ i. cond (not (c .before .has-room .ensures i)) (some (plain 28)) none)

@@ -1,7 +1,7 @@
--- `verdicts::after_step` meets its contract, by the verdict. Assumes nothing.
+-- `settling::after_step` meets its contract, by the verdict. Assumes nothing.
 use borrow.Author.Needs.{needs}
-use Rattle.verdicts.proofs.after_step.Statement.{statement}
-use Rattle.verdicts.proofs.after_step.Tie as tie
+use Rattle.settling.proofs.after_step.Statement.{statement}
+use Rattle.settling.proofs.after_step.Tie as tie
 
 returns-2 : tie.Need-returns-2
 returns-2 c = rw (c .before .verdict .given .1)

@@ -10,7 +10,7 @@ ghost use Rattle.parts.specs.Posts.{posted as listed};
 ghost use Rattle.node.specs.Actions.{effect, coded};
 ghost use Rattle.protocol.specs.Answer.{answered};
 ghost use Rattle.protocol.specs.Calls.{stepped};
-ghost use Rattle.verdicts.specs.Verdicts.{spotsOf, decided, turnedAway, adding, stepping, delivering, afterStep, roomTests};
+ghost use Rattle.settling.specs.Settling.{spotsOf, decided, turnedAway, adding, stepping, delivering, afterStep, roomTests};
 use access::Change;
 use access::Spots;
 use network::QUEUE_LIMIT;

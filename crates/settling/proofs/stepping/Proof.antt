@@ -1,9 +1,9 @@
--- `verdicts::stepping` meets its contract: the change, and what is told of the step. Assumes nothing.
+-- `settling::stepping` meets its contract: the change, and what is told of the step. Assumes nothing.
 use borrow.Author.Needs.{needs}
 use Rattle.node.specs.Actions.{effect}
 use Rattle.access.specs.Changes.{steps}
-use Rattle.verdicts.proofs.stepping.Statement.{statement}
-use Rattle.verdicts.proofs.stepping.Tie as tie
+use Rattle.settling.proofs.stepping.Statement.{statement}
+use Rattle.settling.proofs.stepping.Tie as tie
 
 returns : tie.Need-returns
 returns c =

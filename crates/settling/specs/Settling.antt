@@ -19,7 +19,7 @@ use Rattle.protocol.specs.Calls.{stepped}
 use Rattle.protocol.specs.Answer.{answered}
 use Rattle.access.specs.declared.Spots.{Spots}
 use Rattle.access.specs.Changes.{Written, nothing, adds, steps, delivers, written}
-use Rattle.verdicts.specs.declared.Decision.{Decision}
+use Rattle.settling.specs.declared.Decision.{Decision}
 
 -- ---- where an order looks
 abbrev pub spotsOf : Order → Spots

@@ -1,8 +1,8 @@
--- `verdicts::has_room` meets its contract: a step posts two messages at most, so that the sum fits. Assumes nothing.
+-- `settling::has_room` meets its contract: a step posts two messages at most, so that the sum fits. Assumes nothing.
 use borrow.Author.Needs.{needs}
 use native.Mathlib.Omega.{arith}
-use Rattle.verdicts.proofs.has_room.Statement.{statement}
-use Rattle.verdicts.proofs.has_room.Tie as tie
+use Rattle.settling.proofs.has_room.Statement.{statement}
+use Rattle.settling.proofs.has_room.Tie as tie
 
 returns : tie.Need-returns
 returns c = simp (c .count .ensures)
