@@ -1,6 +1,6 @@
 -- A call of `step` on what is kept and a text that lie in memory which the caller has: each is lent for a lifetime that is made for the call, the
 -- script beside them is passed at its own, and after the call both lie there again, one record further. Lending is stated once, over the row: the
--- crate `access` has it for a network alone.
+-- crate `stores` has it for a network alone.
 --     lends, back              a value of any row that lies in memory is lent for a new lifetime, and lies there again at the loan's last value
 --     lends-step, step-back    the two loans of a call of `step`, and what there is after it
 -- Assumes `Given`.
