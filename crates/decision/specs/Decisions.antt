@@ -10,7 +10,7 @@ use Rattle.refusal.specs.Rules.{Rule, _when_, first, settled, ruled}
 use Rattle.serial.specs.Serial.{inRange}
 use Rattle.node.specs.declared.Node.{Node}
 use Rattle.node.specs.Shape.{capacity}
-use Rattle.node.specs.Actions.{Effect, createOf, joinOf, leaveOf, actOf}
+use Rattle.node.specs.Actions.{Effect, createOf, joinFormed, leaveFormed, actOf}
 use Rattle.protocol.specs.declared.Order.{Order}
 use Rattle.protocol.specs.declared.Order.the-variants.{Declare, Create, Join, Leave}
 use Rattle.access.specs.declared.Sight.{Sight}
@@ -37,7 +37,7 @@ createDecision u count node found = settled (unless (ltb u count) (first (create
 
 -- the step of a join, between the nodes in sight
 abbrev pub joinStep : ℕ → ℕ → ℕ → Sight → Effect
-joinStep u p q s = joinOf u (s .node) (record { number = p; key = s .left .key }) (record { number = q; key = s .right .key })
+joinStep u p q s = joinFormed u (s .node) (record { number = p; key = s .left .key }) (record { number = q; key = s .right .key })
 
 abbrev pub joinTests : ℕ → ℕ → ℕ → Sight → Bool → Option Reason
 joinTests u p q s notice =
@@ -48,10 +48,10 @@ abbrev pub joinDecision : ℕ → ℕ → ℕ → Sight → Bool → Decided
 joinDecision u p q s notice = settled (joinTests u p q s notice) turnedAway (stepping u (joinStep u p q s))
 
 abbrev pub leaveTests : ℕ → ℕ → ℕ → Node → Option Reason
-leaveTests u count waiting node = unless (ltb u count) (afterStep (leaveOf u node .said) (first (roomTests waiting (leaveOf u node .posts))))
+leaveTests u count waiting node = unless (ltb u count) (afterStep (leaveFormed u node .said) (first (roomTests waiting (leaveFormed u node .posts))))
 
 abbrev pub leaveDecision : ℕ → ℕ → ℕ → Node → Decided
-leaveDecision u count waiting node = settled (leaveTests u count waiting node) turnedAway (stepping u (leaveOf u node))
+leaveDecision u count waiting node = settled (leaveTests u count waiting node) turnedAway (stepping u (leaveFormed u node))
 
 abbrev pub orderDecision : Order → Sight → Found → Decided
 orderDecision (Declare key) s f = declareDecision key (s .count) (f .taken)

@@ -51,7 +51,7 @@ fn decide_join(number: u8, left: u8, right: u8, sight: Sight, notice: bool) -> D
     let node = sight.node;
     let before = sight.left;
     let beyond = sight.right;
-    let step = node.join(
+    let step = node.join_formed(
         number,
         settling::peer(left, before),
         settling::peer(right, beyond),
@@ -74,7 +74,7 @@ fn decide_join(number: u8, left: u8, right: u8, sight: Sight, notice: bool) -> D
 fn decide_leave(number: u8, count: u8, waiting: u8, node: Node) -> Decision
     ensures { λ r. ⌜ decided r ≡ leaveDecision number count waiting node ⌝ }
 {
-    let step = node.leave(number);
+    let step = node.leave_formed(number);
     let verdict = step.verdict;
     let posts = step.posts;
     let check = refusal::rule(

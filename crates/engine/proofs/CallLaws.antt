@@ -21,9 +21,10 @@ use Rattle.refusal.proofs.Laws.{cleared}
 use Rattle.serial.specs.Serial.{inRange}
 use Rattle.node.specs.declared.Node.{Node}
 use Rattle.parts.specs.declared.Message.{Message}
-use Rattle.node.specs.Shape.{declaredOf, capacity}
+use Rattle.node.specs.Shape.{declaredOf, capacity, peerFits, wellFormed as nodeIsSound}
 use Rattle.parts.specs.Tests.{isOut}
-use Rattle.node.specs.Actions.{Effect, createOf, joinOf, leaveOf, actOf, wouldGrant}
+use Rattle.node.proofs.ActionLaws.{join-tested, leave-tested}
+use Rattle.node.specs.Actions.{Effect, createOf, joinFormed, joinOf, leaveFormed, leaveOf, actOf, wouldGrant}
 use Rattle.protocol.specs.declared.Call.{Call}
 use Rattle.protocol.specs.declared.Order.the-variants.{Declare, Create, Join, Leave}
 use Rattle.protocol.specs.declared.Call.the-variants.{Order, Deliver}
@@ -34,7 +35,7 @@ use Rattle.protocol.specs.Answer.{accepted}
 use Rattle.protocol.proofs.Facts.{WellFormed as ListsWellFormed, formed as lists-formed}
 use Rattle.protocol.proofs.Waiting.{taken}
 use Rattle.protocol.proofs.Cases.{tested-below, declared-addressee, accepted-case, received as received-acts}
-use Rattle.protocol.proofs.Refusals.{accepted-said}
+use Rattle.protocol.proofs.Refusals.{accepted-said, node-sound, peer-sound}
 use Rattle.network.specs.declared.Network.{Network}
 use Rattle.network.specs.Arrays.{vacantNode, vacantMessage, live, wellFormed, held}
 use Rattle.network.proofs.Lengths.{Lengths}
@@ -223,7 +224,9 @@ module _ (n : Network) (l : Lengths n) (h : wellFormed n ≡ true) where
   join-read u p q here left right =
       let neighbour : (v : ℕ) → v < n .count → record { number = v; key = nodeIn n v .key } ≡ peerAt (live n) v =
       λ v k. ap (λ (node : Node). record { number = v; key = node .key }) (node-read v k) in
-      λ i. joinOf u (node-read u here i) (neighbour p left i) (neighbour q right i)
+      let sound : not (nodeIsSound u (nodeAt (live n) u) && (peerFits (peerAt (live n) p) && peerFits (peerAt (live n) q))) ≡ false =
+      rw (node-sound (live n) lists u (ap not (known u here)), peer-sound (live n) lists p (ap not (known p left)), peer-sound (live n) lists q (ap not (known q right))) in
+      (λ i. joinFormed u (node-read u here i) (neighbour p left i) (neighbour q right i)) ∙ join-tested u (nodeAt (live n) u) (peerAt (live n) p) (peerAt (live n) q) sound
 
   module _ (u p q : ℕ) where
     abbrev joined : Effect
@@ -266,7 +269,11 @@ module _ (n : Network) (l : Lengths n) (h : wellFormed n ≡ true) where
 
   module _ (u : ℕ) where
     abbrev left : Effect
-    left = leaveOf u (nodeIn n u)
+    left = leaveFormed u (nodeIn n u)
+
+    -- the step of a leave is that of the list's node
+    leave-read : u < n .count → leaveFormed u (nodeAt (live n) u) ≡ leaveOf u (nodeAt (live n) u)
+    leave-read here = leave-tested u (nodeAt (live n) u) (ap not (node-sound (live n) lists u (ap not (known u here))))
 
     leave-tests : leaveTests u (n .count) (n .waiting) (nodeIn n u) ≡ first (leaveRules (live n) u)
     leave-tests = unless-says (ltb u (n .count)) _ _ says absent
@@ -274,7 +281,8 @@ module _ (n : Network) (l : Lengths n) (h : wellFormed n ≡ true) where
         says : ltb u (n .count) ≡ true → afterStep (left .said) (first (roomTests (n .waiting) (left .posts))) ≡ first (leaveRules (live n) u)
         says t =
             let here = ltb-true u (n .count) t in
-            (λ i. afterStep (leaveOf u (node-read u here i) .said) (first (roomTests (sym (messages-length n l h) i) (leaveOf u (node-read u here i) .posts))))
+            (λ i. afterStep (leaveFormed u (node-read u here i) .said) (first (roomTests (sym (messages-length n l h) i) (leaveFormed u (node-read u here i) .posts))))
+            ∙ (λ i. afterStep (leave-read here i .said) (first (roomTests (length (live n .messages)) (leave-read here i .posts))))
             ∙ leave-says (live n) lists u (known u here)
 
         absent : ltb u (n .count) ≡ false → some (plain 5) ≡ first (leaveRules (live n) u)
@@ -288,7 +296,8 @@ module _ (n : Network) (l : Lengths n) (h : wellFormed n ≡ true) where
         let (t, after) = unless-known (ltb u (n .count)) (afterStep (left .said) (first (roomTests (n .waiting) (left .posts)))) clear in
         let here = ltb-true u (n .count) t in
         steps-outcome u left here (room-cleared (n .waiting) (left .posts) (after-cleared (left .said) (first (roomTests (n .waiting) (left .posts))) after))
-        ∙ ap (λ (node : Node). counted (inArrays (commit (live n) u (live n .messages) (leaveOf u node)))) (node-read u here))
+        ∙ ap (λ (node : Node). counted (inArrays (commit (live n) u (live n .messages) (leaveFormed u node)))) (node-read u here)
+        ∙ ap (λ (e : Effect). counted (inArrays (commit (live n) u (live n .messages) e))) (leave-read here))
 
   module _ (place : ℕ) where
     abbrev arrival : Arrival

@@ -1,7 +1,7 @@
 -- Laws of the actions, for the proofs of those who build on a node's step. Assumes nothing.
 use mathlib.Core.Path.{_≡_, refl, ap}
 use mathlib.Core.Logic.{_≢_}
-use mathlib.Core.Bool.{true, false}
+use mathlib.Core.Bool.{true, false, not, _&&_}
 use mathlib.Core.Option.{none}
 use Prim.Native.Nat.{ℕ}
 use lib.Dec.{eqb}
@@ -20,7 +20,8 @@ use Rattle.parts.specs.Tests.{isOut, isIn, target, linksTo, seqOf}
 use Rattle.node.specs.declared.Node.{Node}
 use Rattle.node.specs.declared.Peer.{Peer}
 use Rattle.node.specs.declared.Outcome.the-variants.{Created, Waiting, LeftAlone}
-use Rattle.node.specs.Actions.{setR, setRAck, setL, withStatus, quiet, posting, createRules, created, createOf, joinRules, joining, joinOf, alone, leaveRules, leaveRequest, leaving, leaveOf, grants, relinked, granting, onSetR, actOf, receiveRules, receiveOf}
+use Rattle.node.specs.Shape.{wellFormed, peerFits}
+use Rattle.node.specs.Actions.{setR, setRAck, setL, withStatus, quiet, posting, createRules, created, createOf, joinRules, joining, joinFormed, joinOf, alone, leaveOwnRules, leaveRules, leaveFormed, leaveRequest, leaving, leaveOf, grants, relinked, granting, onSetR, actOf, receiveRules, receiveOf}
 
 -- ---- what the tests say
 pub tested-out : (s : Status) → isOut s ≡ true → s ≡ Out
@@ -54,9 +55,9 @@ granted p v new expected h =
 
 -- ---- a leave that no rule refuses
 module _ (me : ℕ) (u : Node) where
-  pub leave-room : first (leaveRules me u) ≡ none → alone me u ≡ false → hasNext (seqOf (u .rseq)) ≡ true
+  pub leave-room : first (leaveOwnRules me u) ≡ none → alone me u ≡ false → hasNext (seqOf (u .rseq)) ≡ true
   leave-room clear e =
-      let (_, (_, (unspent, _))) = cleared (leaveRules me u) clear in
+      let (_, (unspent, _)) = cleared (leaveOwnRules me u) clear in
       not-false (hasNext (seqOf (u .rseq))) (rw e at unspent)
 
   pub leaves-alone : alone me u ≡ true → quiet (withStatus Out u) LeftAlone ≡ leaving me u
@@ -89,6 +90,16 @@ module _ (me : ℕ) (u : Node) where
   pub receive-accepted : (m : Message) → Cleared (receiveRules me u m) → receiveOf me u m ≡ actOf me u (m .sender) (m .kind)
   unfolding receiveOf
   receive-accepted m (sound, _) = rw sound
+
+-- ---- past the test of shape a step is the tested one
+module _ (me : ℕ) (u : Node) where
+  pub join-tested : (p q : Peer) → not (wellFormed me u && (peerFits p && peerFits q)) ≡ false → joinFormed me u p q ≡ joinOf me u p q
+  unfolding joinOf joinFormed
+  join-tested p q sound = rw sound
+
+  pub leave-tested : not (wellFormed me u) ≡ false → leaveFormed me u ≡ leaveOf me u
+  unfolding leaveOf leaveFormed
+  leave-tested sound = rw sound
 
 -- ---- what a granted request comes to: the notice is for the node that has a new left neighbour
 module _ (p : Node) (me v new expected number : ℕ) (g : grants p v new expected ≡ true) where

@@ -95,12 +95,11 @@ createOf me u = ruled (createRules me u) (refused u) (creating me u)
 
 -- ---- "Join u between p and q: left p, right q, status ins; SetR(u, q, left number of u) to p."
 -- 23 "join: bench not out", 24 "join: key not in (left, right)"
+abbrev pub joinOwnRules : Node → Peer → Peer → List Rule
+joinOwnRules u p q = (23 when not (isOut (u .status))) ∷ (24 when not (between (p .key) (q .key) (u .key))) ∷ []
+
 abbrev pub joinRules : ℕ → Node → Peer → Peer → List Rule
-joinRules me u p q =
-    (6 when not (wellFormed me u && (peerFits p && peerFits q)))
-    ∷ (23 when not (isOut (u .status)))
-    ∷ (24 when not (between (p .key) (q .key) (u .key)))
-    ∷ []
+joinRules me u p q = (6 when not (wellFormed me u && (peerFits p && peerFits q))) ∷ joinOwnRules u p q
 
 abbrev pub joining : Node → Peer → Peer → Node
 joining u p q = withStatus Ins (withRight (To (q .number)) (u .rseq) (withLeft (To (p .number)) (u .lseq) u))
@@ -111,6 +110,10 @@ joinRequest me u p q = setR me (p .number) me (q .number) (u .lseq)
 abbrev pub asking : ℕ → Node → Peer → Peer → Effect
 asking me u p q = posting (joining u p q) (joinRequest me u p q) Waiting
 
+-- past the test of node and neighbours; and with it
+unfoldable pub joinFormed : ℕ → Node → Peer → Peer → Effect
+joinFormed me u p q = ruled (joinOwnRules u p q) (refused u) (asking me u p q)
+
 unfoldable pub joinOf : ℕ → Node → Peer → Peer → Effect
 joinOf me u p q = ruled (joinRules me u p q) (refused u) (asking me u p q)
 
@@ -119,12 +122,11 @@ abbrev pub alone : ℕ → Node → Bool
 alone me u = linksTo (u .right) me
 
 -- 26 "leave: bench not in", 27 "leave: right number 65,535 and not alone"
+abbrev pub leaveOwnRules : ℕ → Node → List Rule
+leaveOwnRules me u = (26 when not (isIn (u .status))) ∷ (27 when not (alone me u) && not (hasNext (seqOf (u .rseq)))) ∷ []
+
 abbrev pub leaveRules : ℕ → Node → List Rule
-leaveRules me u =
-    (6 when not (wellFormed me u))
-    ∷ (26 when not (isIn (u .status)))
-    ∷ (27 when not (alone me u) && not (hasNext (seqOf (u .rseq))))
-    ∷ []
+leaveRules me u = (6 when not (wellFormed me u)) ∷ leaveOwnRules me u
 
 abbrev pub leaveRequest : ℕ → Node → Number → Message
 leaveRequest me u next = setR me (target (u .left)) (target (u .right)) me next
@@ -134,6 +136,10 @@ leaving me u =
     cond (alone me u)
     (quiet (withStatus Out u) LeftAlone)
     (posting (withStatus Del u) (leaveRequest me u (nextSeq (seqOf (u .rseq)))) Waiting)
+
+-- past the test of the node; and with it
+unfoldable pub leaveFormed : ℕ → Node → Effect
+leaveFormed me u = ruled (leaveOwnRules me u) (refused u) (leaving me u)
 
 unfoldable pub leaveOf : ℕ → Node → Effect
 leaveOf me u = ruled (leaveRules me u) (refused u) (leaving me u)

@@ -1,7 +1,7 @@
 // Join: a node asks the node on its left to let it in.
 ghost use mathlib.Core.Path.{_≡_};
 ghost use Rattle.refusal.specs.Rules.{first, checked};
-ghost use Rattle.node.specs.Actions.{effect, joinRules, joining, joinRequest, joinOf};
+ghost use Rattle.node.specs.Actions.{effect, joinOwnRules, joining, joinRequest, joinFormed, joinOf};
 use crate::Node;
 use crate::Outcome;
 use crate::Peer;
@@ -15,21 +15,17 @@ use parts::Status;
 use refusal::Check;
 use refusal::Refusal;
 
-fn check(node: Node, me: u8, left: Peer, right: Peer) -> Check
-    ensures { λ r. ⌜ checked r ≡ first (joinRules me node left right) ⌝ }
+fn check(node: Node, left: Peer, right: Peer) -> Check
+    ensures { λ r. ⌜ checked r ≡ first (joinOwnRules node left right) ⌝ }
 {
     let status = node.status;
     refusal::rule(
-        !(shape::is_well_formed(node, me) & (shape::peer_fits(left) & shape::peer_fits(right))),
-        Refusal::Malformed,
+        !status.is_out(),
+        Refusal::NotOut,
         refusal::rule(
-            !status.is_out(),
-            Refusal::NotOut,
-            refusal::rule(
-                !interval::is_between(left.key, right.key, node.key),
-                Refusal::NotBetween,
-                Check::Clear,
-            ),
+            !interval::is_between(left.key, right.key, node.key),
+            Refusal::NotBetween,
+            Check::Clear,
         ),
     )
 }
@@ -61,10 +57,11 @@ fn join_request(node: Node, me: u8, left: Peer, right: Peer) -> Message
 }
 
 impl Node {
-    pub fn join(self, me: u8, left: Peer, right: Peer) -> Step
-        ensures { λ r. ⌜ effect r ≡ joinOf me self left right ⌝ }
+    // A join with no test of node or neighbours.
+    pub fn join_formed(self, me: u8, left: Peer, right: Peer) -> Step
+        ensures { λ r. ⌜ effect r ≡ joinFormed me self left right ⌝ }
     {
-        if let Check::Refuse(refusal) = check(self, me, left, right) {
+        if let Check::Refuse(refusal) = check(self, left, right) {
             return steps::refuse(self, refusal);
         }
         let request = join_request(self, me, left, right);
@@ -73,5 +70,14 @@ impl Node {
             request,
             Outcome::Waiting,
         )
+    }
+
+    pub fn join(self, me: u8, left: Peer, right: Peer) -> Step
+        ensures { λ r. ⌜ effect r ≡ joinOf me self left right ⌝ }
+    {
+        if !(shape::is_well_formed(self, me) & (shape::peer_fits(left) & shape::peer_fits(right))) {
+            return steps::refuse(self, Refusal::Malformed);
+        }
+        self.join_formed(me, left, right)
     }
 }

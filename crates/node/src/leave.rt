@@ -1,7 +1,7 @@
 // Leave: a node asks the node on its left to pass it over, or goes at once where it is alone.
 ghost use mathlib.Core.Path.{_≡_};
 ghost use Rattle.refusal.specs.Rules.{first, checked};
-ghost use Rattle.node.specs.Actions.{effect, leaveRules, leaveRequest, leaveOf};
+ghost use Rattle.node.specs.Actions.{effect, leaveOwnRules, leaveRequest, leaveFormed, leaveOf};
 use crate::Node;
 use crate::Outcome;
 use crate::Step;
@@ -15,22 +15,18 @@ use refusal::Refusal;
 use sequence::Number;
 
 fn check(node: Node, me: u8) -> Check
-    ensures { λ r. ⌜ checked r ≡ first (leaveRules me node) ⌝ }
+    ensures { λ r. ⌜ checked r ≡ first (leaveOwnRules me node) ⌝ }
 {
     let status = node.status;
     let right = node.right;
     let rseq = node.rseq;
     refusal::rule(
-        !shape::is_well_formed(node, me),
-        Refusal::Malformed,
+        !status.is_in(),
+        Refusal::NotIn,
         refusal::rule(
-            !status.is_in(),
-            Refusal::NotIn,
-            refusal::rule(
-                !right.links_to(me) & !sequence::has_next(rseq.number()),
-                Refusal::SequenceSpent,
-                Check::Clear,
-            ),
+            !right.links_to(me) & !sequence::has_next(rseq.number()),
+            Refusal::SequenceSpent,
+            Check::Clear,
         ),
     )
 }
@@ -52,8 +48,9 @@ fn leave_request(node: Node, me: u8, next: Number) -> Message
 }
 
 impl Node {
-    pub fn leave(self, me: u8) -> Step
-        ensures { λ r. ⌜ effect r ≡ leaveOf me self ⌝ }
+    // A leave with no test of the node.
+    pub fn leave_formed(self, me: u8) -> Step
+        ensures { λ r. ⌜ effect r ≡ leaveFormed me self ⌝ }
     {
         let right = self.right;
         let rseq = self.rseq;
@@ -70,5 +67,14 @@ impl Node {
             request,
             Outcome::Waiting,
         )
+    }
+
+    pub fn leave(self, me: u8) -> Step
+        ensures { λ r. ⌜ effect r ≡ leaveOf me self ⌝ }
+    {
+        if !shape::is_well_formed(self, me) {
+            return steps::refuse(self, Refusal::Malformed);
+        }
+        self.leave_formed(me)
     }
 }

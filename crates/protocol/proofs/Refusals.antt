@@ -54,10 +54,10 @@ module _ (s : State) (w : WellFormed s) where
   sound : not (wellFormed s) ≡ false
   sound = ap not (tested s w)
 
-  node-sound : (u : ℕ) → not (declared s u) ≡ false → nodeIsSound u (nodeAt s u) ≡ true
+  pub node-sound : (u : ℕ) → not (declared s u) ≡ false → nodeIsSound u (nodeAt s u) ≡ true
   node-sound u known = let k = tested-below u (length (s .nodes)) known in well-formed-among (w .few-nodes) u k (w .node u k)
 
-  peer-sound : (p : ℕ) → not (declared s p) ≡ false → peerFits (peerAt s p) ≡ true
+  pub peer-sound : (p : ℕ) → not (declared s p) ≡ false → peerFits (peerAt s p) ≡ true
   peer-sound p known = let k = tested-below p (length (s .nodes)) known in peer-among (w .few-nodes) (peerAt s p) k (w .node p k .key)
 
   never-six : (call : Call) → Never 6 (rulesOf s call)

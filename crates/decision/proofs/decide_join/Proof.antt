@@ -7,7 +7,7 @@ use lib.Dec.{ltb}
 use Rattle.refusal.specs.Code.{plain}
 use Rattle.refusal.specs.Rules.{_when_, first, settled}
 use mathlib.Core.List.{_∷_}
-use Rattle.node.specs.Actions.{Effect, effect, joinOf}
+use Rattle.node.specs.Actions.{Effect, effect, joinFormed}
 use Rattle.settling.specs.Settling.{turnedAway, stepping, afterStep, roomTests}
 use Rattle.decision.specs.Decisions.{unless}
 use Rattle.decision.proofs.decide_join.Statement.{statement}
@@ -21,9 +21,9 @@ returns c =
     let args = joined .before .before .before .before .before .before .args in
     let known = ltb (args .number) (args .sight .count) && (ltb (args .left) (args .sight .count) && ltb (args .right) (args .sight .count)) in
     let rest = noticed .rule .ensures ∙ ap (cond (args .notice) (some (plain 25))) (noticed .before .check-room .ensures) in
-    let stepped = ruled .before .after-step .ensures ∙ ap (afterStep (effect (joined .join .result) .said)) rest in
+    let stepped = ruled .before .after-step .ensures ∙ ap (afterStep (effect (joined .join-formed .result) .said)) rest in
     let check = ruled .rule2 .ensures ∙ ap (unless known) stepped in
-    let step = joined .join .ensures ∙ (λ i. joinOf (args .number) (args .sight .node) (joined .before .before .peer .ensures i) (joined .before .peer2 .ensures i)) in
+    let step = joined .join-formed .ensures ∙ (λ i. joinFormed (args .number) (args .sight .node) (joined .before .before .peer .ensures i) (joined .before .peer2 .ensures i)) in
     c .settle .ensures
     ∙ (λ i. settled (check i) turnedAway (c .before .stepping .ensures i))
     ∙ ap (λ (e : Effect). settled (unless known (afterStep (e .said) (first ((25 when args .notice) ∷ roomTests (args .sight .waiting) (e .posts))))) turnedAway (stepping (args .number) e)) step

@@ -16,11 +16,11 @@ returns c =
     let ruled = c .before .before in
     let left = ruled .before .before .before in
     let args = left .before .args in
-    let rest = ruled .before .after-step .ensures ∙ ap (afterStep (effect (left .leave .result) .said)) (ruled .before .before .check-room .ensures) in
+    let rest = ruled .before .after-step .ensures ∙ ap (afterStep (effect (left .leave-formed .result) .said)) (ruled .before .before .check-room .ensures) in
     let check = ruled .rule .ensures ∙ ap (cond (not (ltb (args .number) (args .count))) (some (plain 5))) rest in
     c .settle .ensures
     ∙ (λ i. settled (check i) turnedAway (c .before .stepping .ensures i))
-    ∙ ap (λ (e : Effect). settled (cond (not (ltb (args .number) (args .count))) (some (plain 5)) (afterStep (e .said) (first (roomTests (args .waiting) (e .posts))))) turnedAway (stepping (args .number) e)) (left .leave .ensures)
+    ∙ ap (λ (e : Effect). settled (cond (not (ltb (args .number) (args .count))) (some (plain 5)) (afterStep (e .said) (first (roomTests (args .waiting) (e .posts))))) turnedAway (stepping (args .number) e)) (left .leave-formed .ensures)
 
 pub decide-leave-spec : {M : Type 1} → statement M
 decide-leave-spec =

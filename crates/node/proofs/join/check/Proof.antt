@@ -1,6 +1,6 @@
 -- `node::join::check` meets its contract, rule by rule from the last. Assumes nothing.
 use mathlib.Core.Path.{_∙_}
-use mathlib.Core.Bool.{not, _&&_, cond}
+use mathlib.Core.Bool.{not, cond}
 use mathlib.Core.Option.{none, some}
 use Rattle.refusal.specs.Code.{plain}
 use Rattle.node.proofs.join.check.Statement.{statement}
@@ -8,21 +8,14 @@ use Rattle.node.proofs.join.check.Tie as tie
 
 returns : tie.Need-returns
 returns c =
-    let tests = c .before .before .before in
-    let shapes = tests .before .before in
-    let between = c .before .before .rule .ensures ∙ (λ i. cond (not (tests .is-between .ensures i)) (some (plain 24)) none) in
-    let out = c .before .rule2 .ensures ∙ (λ i. cond (not (tests .before .is-out .ensures i)) (some (plain 23)) (between i)) in
-    c .rule3 .ensures
-    ∙ (λ i. cond (not (shapes .before .before .is-well-formed .ensures i && (shapes .before .peer-fits .ensures i && shapes .peer-fits2 .ensures i))) (some (plain 6)) (out i))
+    let tests = c .before .before in
+    let between = c .before .rule .ensures ∙ (λ i. cond (not (tests .is-between .ensures i)) (some (plain 24)) none) in
+    c .rule2 .ensures ∙ (λ i. cond (not (tests .before .is-out .ensures i)) (some (plain 23)) (between i))
 
 pub check-spec : {M : Type 1} → statement M
 check-spec =
     tie.close
     (tie.spec
-    (λ c κs. tt)
-    (λ c κs. tt)
-    (λ c κs. tt)
-    (λ c κs. tt)
     (λ c κs. tt)
     (λ c κs. tt)
     (λ c κs. tt)

@@ -9,19 +9,16 @@ use Rattle.node.proofs.leave.check.Tie as tie
 
 returns : tie.Need-returns
 returns c =
-    let tests = c .before .before .before in
+    let tests = c .before .before in
     let status = tests .before .before in
     let has-next = tests .has-next .ensures ∙ ap hasNext (tests .before .number .ensures) in
-    let unspent = c .before .before .rule .ensures ∙ (λ i. cond (not (status .links-to .ensures i) && not (has-next i)) (some (plain 27)) none) in
-    let is-in = c .before .rule2 .ensures ∙ (λ i. cond (not (status .before .is-in .ensures i)) (some (plain 26)) (unspent i)) in
-    c .rule3 .ensures ∙ (λ i. cond (not (status .before .before .is-well-formed .ensures i)) (some (plain 6)) (is-in i))
+    let unspent = c .before .rule .ensures ∙ (λ i. cond (not (status .links-to .ensures i) && not (has-next i)) (some (plain 27)) none) in
+    c .rule2 .ensures ∙ (λ i. cond (not (status .before .is-in .ensures i)) (some (plain 26)) (unspent i))
 
 pub check-spec : {M : Type 1} → statement M
 check-spec =
     tie.close
     (tie.spec
-    (λ c κs. tt)
-    (λ c κs. tt)
     (λ c κs. tt)
     (λ c κs. tt)
     (λ c κs. tt)
