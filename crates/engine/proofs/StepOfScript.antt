@@ -7,7 +7,7 @@ use Prim.Native.Nat.{ℕ, _+_, _≤_, _<_}
 use lib.ListN.{length, take}
 use lib.Seq.{length-take-le}
 use Rattle.io.specs.Counts.{Counts}
-use Rattle.refusal.specs.Code.{Reason}
+use Rattle.refusal.specs.Code.{Reason, plain}
 use Rattle.refusal.specs.Rules.{Coded, done as replied, no}
 use native.Mathlib.Omega.{arith}
 use native.Mathlib.Nat.{mod-eq-of-lt}
@@ -22,13 +22,13 @@ use Rattle.script.proofs.Laws.{before-end}
 use Rattle.protocol.specs.declared.Reply.{Reply}
 use Rattle.report.specs.declared.Report.{Report}
 use Rattle.protocol.specs.Answer.{answered}
-use Rattle.printout.specs.Lines.{lineOf, Printed}
+use Rattle.printout.specs.Lines.{heading, lineOf, lastLine, Printed}
 use Rattle.printout.proofs.Laws.{printed-short, printed-there}
 use Rattle.progress.specs.declared.Progress.{Progress}
-use Rattle.progress.specs.Leaving.{postedAfter, Leaves}
+use Rattle.progress.specs.Leaving.{postedAfter, Leaves, Refuses}
 use Rattle.engine.specs.declared.printing.Kept.{Kept}
 use Rattle.course.specs.Performance.{performOf as performOnLists}
-use Rattle.course.specs.Run.{Progress as Reached, stepOf}
+use Rattle.course.specs.Run.{Progress as Reached, stepOf, tooLong}
 use Rattle.engine.specs.Outcomes.{Counted, counted, refused, reported}
 use Rattle.engine.specs.InArrays.{performOf}
 use Rattle.engine.specs.Reached.{reached}
@@ -125,6 +125,15 @@ pub line-there : {text line after : List ℕ} {at r : ℕ} → at + 40 ≤ lengt
 line-there room p =
     let (reads, few, same) = printed-whole room p in
     (reads, few)
+
+-- a script that is refused as a whole, after the heading
+pub refused-whole : {text buffer : List ℕ} {start r : ℕ} → take start text ≡ heading → start ≤ 40 → Refuses text start buffer r
+    → (take r buffer ≡ tooLong) × (r ≤ 1_000_000) × (1_048_576 ≡ length buffer)
+refused-whole {text} reads early x =
+    let size : 1_048_576 ≡ length text = x .size in
+    let (line, few, same) = printed-whole (omega (arith, early, size)) (x .line) in
+    let (last, short, kept) = printed-whole (omega (arith, early, size, few, same)) (x .last) in
+    (last ∙ ap (λ (l : List ℕ). l ++ lastLine 0 0) (line ∙ ap (λ (l : List ℕ). l ++ lineOf 0 (no (plain 7))) reads), omega (arith, early, few, short), omega (arith, size, same, kept))
 
 -- ---- a record that is left, where there is room and no count wraps
 module _ (p r : Progress) (after : ℕ) (m : Network) (report : Report) (text buffer : List ℕ) (may : (p .used + 40 ≤ 1_048_576) × (p .ordinal < 100_000) × (p .posted < 100_000_000))

@@ -6,7 +6,7 @@ ghost use Rattle.io.specs.Counts.{Counts};
 ghost use Rattle.network.specs.Arrays.{empty, wellFormed};
 ghost use Rattle.printout.specs.Lines.{heading, lastLine};
 ghost use Rattle.engine.specs.Reached.{reached};
-ghost use Rattle.course.specs.Run.{stepOf, after, closed, sizeLimit, tooLong, printoutOf};
+ghost use Rattle.course.specs.Run.{stepOf, after, closed, sizeLimit, printoutOf};
 ghost use lib.ListN.{length, take};
 ghost use mathlib.Core.Bool.{true};
 ghost use mathlib.Core.List.{_++_};
@@ -14,7 +14,6 @@ ghost use mathlib.Core.Path.{_≡_};
 use crate::in_place;
 use network::Network;
 use progress::Progress;
-use refusal::Refusal;
 
 // "A script is at most 65,536 bytes."
 pub const SIZE_LIMIT: usize = 65_536;
@@ -83,16 +82,6 @@ fn run(script: &[u8], text: &mut [u8; 1048576], start: usize) -> usize
     finish(text, kept, p)
 }
 
-// A script that is too long is refused as a whole.
-fn refuse_script(text: &mut [u8], start: usize) -> usize
-    requires { ⌜ (take start (now text) ≡ heading) × (start ≤ 40) × (1_000_000 ≤ length (now text)) ⌝ }
-    ensures { λ r. ⌜ take r (now (text .exit)) ≡ tooLong ⌝ }
-    ensures { λ r. ⌜ r ≤ 1_000_000 ⌝ }
-{
-    let used = printout::refusal_line(text, start, 0, Refusal::ScriptTooLong);
-    put_last(text, used, 0, 0)
-}
-
 // The printout of a whole script, and how many bytes it has. No printout is longer than the buffer; what stands in the buffer past the
 // printout is left open.
 pub fn printout(script: &[u8], text: &mut [u8; 1048576]) -> usize
@@ -101,7 +90,7 @@ pub fn printout(script: &[u8], text: &mut [u8; 1048576]) -> usize
 {
     let start = text::append(text, 0, b"ring 1\n");
     if SIZE_LIMIT < script.len() {
-        refuse_script(text, start)
+        progress::refuse_script(text, start)
     } else {
         run(script, text, start)
     }

@@ -6,13 +6,14 @@ use mathlib.Core.List.{List}
 use lib.ListN.{length}
 use Rattle.refusal.specs.declared.Refusal.{Refusal}
 use Rattle.refusal.specs.declared.Refusal.the-variants.{Malformed}
+use Rattle.refusal.specs.Code.{plain}
 use Rattle.refusal.specs.Rules.{Coded, done, no}
 use Rattle.protocol.specs.declared.Answer.{Answer}
 use Rattle.protocol.specs.declared.Answer.the-variants.{Done, Refused}
 use Rattle.protocol.specs.declared.Reply.{Reply}
 use Rattle.protocol.specs.Answer.{answered}
 use Rattle.report.specs.declared.Report.{Report}
-use Rattle.printout.specs.Lines.{lineOf, Printed}
+use Rattle.printout.specs.Lines.{lineOf, lastLine, Printed}
 use Rattle.progress.specs.declared.Progress.{Progress}
 
 -- the refusal in an answer; of one that is done it is not asked for
@@ -33,3 +34,11 @@ Leaves p after report text r buffer =
     × (r .posted ≡ postedAfter (p .posted) (answered (report .answer)) (report .posted))
     × Printed text (p .used) (lineOf (r .ordinal) (answered (report .answer))) buffer (r .used)
     × (1_048_576 ≡ length text)
+
+-- from the text to the buffer: the line that refuses a script as a whole, and the last line after it
+pub record Refuses (text : List ℕ) (start : ℕ) (buffer : List ℕ) (r : ℕ) : Type 0 where
+  pub between : List ℕ
+  pub used : ℕ
+  pub line : Printed text start (lineOf 0 (no (plain 7))) between used
+  pub last : Printed between used (lastLine 0 0) buffer r
+  pub size : 1_048_576 ≡ length text

@@ -1,7 +1,7 @@
 // How far the run of a script has come, beside its network, and how it leaves a record: the line is printed, and the cursor is past it. Counts wrap, and
 // where forty bytes find no room no line is printed, so that nothing is asked of the caller; a run comes to neither.
 ghost use mathlib.Core.Path.{_≡_};
-ghost use Rattle.progress.specs.Leaving.{refusalIn, Leaves};
+ghost use Rattle.progress.specs.Leaving.{refusalIn, Leaves, Refuses};
 use protocol::Answer;
 use refusal::Refusal;
 use report::Report;
@@ -46,4 +46,12 @@ pub fn leave_record(text: &mut [u8; 1048576], p: Progress, after: usize, report:
         posted: std::num::wrapping_add_u32(p.posted, report.posted),
         used,
     }
+}
+
+// A script that is too long is refused as a whole: its one line, and the last.
+pub fn refuse_script(text: &mut [u8; 1048576], start: usize) -> usize
+    ensures { λ r. ⌜ Refuses (now (text .entry)) start (now (text .exit)) r ⌝ }
+{
+    let used = printout::refusal_line(text, start, 0, Refusal::ScriptTooLong);
+    printout::last_line(text, used, 0, 0)
 }

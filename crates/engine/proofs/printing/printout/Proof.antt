@@ -3,16 +3,10 @@
 use mathlib.Core.Path.{refl, sym, _∙_}
 use native.Mathlib.Omega.{arith}
 use borrow.Author.Needs.{needs}
-use Rattle.engine.proofs.StepOfScript.{line-put, all-counted}
+use Rattle.engine.proofs.StepOfScript.{line-put, all-counted, refused-whole}
 use Rattle.engine.proofs.LoopLaws.{too-long, not-too-long}
 use Rattle.engine.proofs.printing.printout.Statement.{statement}
 use Rattle.engine.proofs.printing.printout.Tie as tie
-
-refuse-script-requires : tie.Need-refuse-script-requires
-refuse-script-requires c κs =
-    let put = c .before .before in
-    let (reads, few) = line-put _ _ _ _ 0 _ (put .append .ensures) refl (omega arith) (omega arith) in
-    (reads, few, omega (arith, put .append .kept .0))
 
 run-requires : tie.Need-run-requires
 run-requires c κs =
@@ -23,8 +17,9 @@ run-requires c κs =
 returns : tie.Need-returns
 returns c =
     let tested = c .before .before in
-    let (reads, few) = c .refuse-script .ensures in
-    (all-counted _ _ (omega (arith, c .refuse-script .kept .0, tested .before .append .kept .0)), reads ∙ sym (too-long _ (tested .if1 .taken)))
+    let (heads, early) = line-put _ _ _ _ 0 _ (tested .before .append .ensures) refl (omega arith) (omega arith) in
+    let (reads, few, whole) = refused-whole heads early (c .refuse-script .ensures) in
+    (all-counted _ _ (omega (arith, few, whole)), reads ∙ sym (too-long _ (tested .if1 .taken)))
 
 returns-2 : tie.Need-returns-2
 returns-2 c =
@@ -38,7 +33,7 @@ printout-spec =
     (tie.spec
     (λ c. search needs)
     (λ c κs. search needs)
-    refuse-script-requires
+    (λ c κs. search needs)
     run-requires
     returns
     returns-2)
