@@ -1,6 +1,6 @@
 // How the arrays of a network are read and written, by value. No rule stands here: what a call's rules look at is read out (`Sight`, `Arrival`), and
-// what they decide is carried out (`Change`). Each public function takes any network and any numbers. The crate `stores` does the same where a
-// network lies, by the same definitions.
+// what they decide is carried out (`Change`). Each public function takes any network and any numbers. The crates `stores` and `readings` do the same
+// where a network lies, by the same definitions.
 use node::Node;
 use parts::Message;
 use parts::Posts;

@@ -13,12 +13,12 @@ pub fn decide(network: &mut Network, call: Call) -> Decision
     match call {
         Call::Order(order) => {
             let spots = settling::spots(order);
-            let sight = stores::look(network, spots);
-            let found = stores::find(network, order);
+            let sight = readings::look(network, spots);
+            let found = readings::find(network, order);
             decision::decide_order(order, sight, found)
         }
         Call::Deliver(place) => {
-            let arrival = stores::meet(network, place);
+            let arrival = readings::meet(network, place);
             decision::decide_delivery(place, arrival)
         }
     }

@@ -1,4 +1,4 @@
-// What a call on any network comes to: what its rules look at is read out of the arrays (`access`, `searches`, and in place `stores`), and the
+// What a call on any network comes to: what its rules look at is read out of the arrays (`access`, `searches`, and in place `readings`), and the
 // decision is made from that (`decision`). By value and in place it is the same decision, and nothing is changed. That it is what paper 01's rules say of a well-formed
 // network is proved in the crate `engine`.
 ghost use mathlib.Core.Path.{_≡_};

@@ -1,5 +1,5 @@
 // What only a search of a network's arrays tells, for every network, by value: whether a node has a key, whether some node is not out, and whether a
-// notice to a node waits. Counts past the arrays are cut. The crate `stores` does the same where a network lies, by the same definitions and tests.
+// notice to a node waits. Counts past the arrays are cut. The crate `readings` does the same where a network lies, by the same definitions and tests.
 ghost use mathlib.Core.Path.{_≡_};
 ghost use mathlib.Core.Bool.{not};
 ghost use Prim.Native.Nat.{_≤_};

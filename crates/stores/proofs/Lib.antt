@@ -9,4 +9,3 @@ pub mod Places
 pub mod Calling
 pub mod Lending
 pub mod Reading
-pub mod Searching

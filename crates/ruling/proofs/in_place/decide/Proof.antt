@@ -63,22 +63,22 @@ use Rattle.settling.proofs.spots as spots
 use Rattle.settling.proofs.spots.Symbol as spots-def
 use Rattle.settling.proofs.spots.Symbol.{name as #settling·spots}
 use Rattle.settling.proofs.spots.Met as spots-met
-use Rattle.stores.proofs.look as look
-use Rattle.stores.proofs.look.Symbol as look-def
-use Rattle.stores.proofs.look.Symbol.{name as #stores·look}
-use Rattle.stores.proofs.look.Met as look-met
-use Rattle.stores.proofs.find as find
-use Rattle.stores.proofs.find.Symbol as find-def
-use Rattle.stores.proofs.find.Symbol.{name as #stores·find}
-use Rattle.stores.proofs.find.Met as find-met
+use Rattle.readings.proofs.look as look
+use Rattle.readings.proofs.look.Symbol as look-def
+use Rattle.readings.proofs.look.Symbol.{name as #readings·look}
+use Rattle.readings.proofs.look.Met as look-met
+use Rattle.readings.proofs.find as find
+use Rattle.readings.proofs.find.Symbol as find-def
+use Rattle.readings.proofs.find.Symbol.{name as #readings·find}
+use Rattle.readings.proofs.find.Met as find-met
 use Rattle.decision.proofs.decide_order as decide-order
 use Rattle.decision.proofs.decide_order.Symbol as decide-order-def
 use Rattle.decision.proofs.decide_order.Symbol.{name as #decision·decide-order}
 use Rattle.decision.proofs.decide_order.Met as decide-order-met
-use Rattle.stores.proofs.meet as meet
-use Rattle.stores.proofs.meet.Symbol as meet-def
-use Rattle.stores.proofs.meet.Symbol.{name as #stores·meet}
-use Rattle.stores.proofs.meet.Met as meet-met
+use Rattle.readings.proofs.meet as meet
+use Rattle.readings.proofs.meet.Symbol as meet-def
+use Rattle.readings.proofs.meet.Symbol.{name as #readings·meet}
+use Rattle.readings.proofs.meet.Met as meet-met
 use Rattle.decision.proofs.decide_delivery as decide-delivery
 use Rattle.decision.proofs.decide_delivery.Symbol as decide-delivery-def
 use Rattle.decision.proofs.decide_delivery.Symbol.{name as #decision·decide-delivery}
@@ -127,10 +127,10 @@ module _ {M : Type 1} (𝓤 : URA M) (H : Heap 𝓤) (A : Atoms 𝓤) (W : Given
 -- ---- the walk
 module _ {M : Type 1} (𝓤 : URA M) (H : Heap 𝓤) (A : Atoms 𝓤) (W : Given 𝓤 H A) (at-mem : Memory → SProp 𝓤) (run : Routine → Fun 𝓤) (𝓣 : Tables 𝓤 H)
     (known-spots : Triple 𝓤 (𝓣 .C #settling·spots) (Spots-of 𝓤 H A at-mem run))
-    (known-look : Triple 𝓤 (𝓣 .C #stores·look) (Look 𝓤 H A at-mem run))
-    (known-find : Triple 𝓤 (𝓣 .C #stores·find) (Find 𝓤 H A at-mem run))
+    (known-look : Triple 𝓤 (𝓣 .C #readings·look) (Look 𝓤 H A at-mem run))
+    (known-find : Triple 𝓤 (𝓣 .C #readings·find) (Find 𝓤 H A at-mem run))
     (known-order : Triple 𝓤 (𝓣 .C #decision·decide-order) (DecideOrder 𝓤 H A at-mem run))
-    (known-meet : Triple 𝓤 (𝓣 .C #stores·meet) (Meet 𝓤 H A at-mem run))
+    (known-meet : Triple 𝓤 (𝓣 .C #readings·meet) (Meet 𝓤 H A at-mem run))
     (known-delivery : Triple 𝓤 (𝓣 .C #decision·decide-delivery) (DecideDelivery 𝓤 H A at-mem run))
     (κ : Lft) (q : Share) (b o : ℕ) (γ : GName) (n : Network) (c : Call) where
   abbrev Ends : Decision → Network → Type 0
@@ -203,10 +203,10 @@ module _ {M : Type 1} (𝓤 : URA M) (H : Heap 𝓤) (A : Atoms 𝓤) (W : Given
 
 module _ {M : Type 1} (𝓤 : URA M) (H : Heap 𝓤) (A : Atoms 𝓤) (W : Given 𝓤 H A) (at-mem : Memory → SProp 𝓤) (run : Routine → Fun 𝓤) (𝓣 : Tables 𝓤 H)
     (known-spots : Triple 𝓤 (𝓣 .C #settling·spots) (Spots-of 𝓤 H A at-mem run))
-    (known-look : Triple 𝓤 (𝓣 .C #stores·look) (Look 𝓤 H A at-mem run))
-    (known-find : Triple 𝓤 (𝓣 .C #stores·find) (Find 𝓤 H A at-mem run))
+    (known-look : Triple 𝓤 (𝓣 .C #readings·look) (Look 𝓤 H A at-mem run))
+    (known-find : Triple 𝓤 (𝓣 .C #readings·find) (Find 𝓤 H A at-mem run))
     (known-order : Triple 𝓤 (𝓣 .C #decision·decide-order) (DecideOrder 𝓤 H A at-mem run))
-    (known-meet : Triple 𝓤 (𝓣 .C #stores·meet) (Meet 𝓤 H A at-mem run))
+    (known-meet : Triple 𝓤 (𝓣 .C #readings·meet) (Meet 𝓤 H A at-mem run))
     (known-delivery : Triple 𝓤 (𝓣 .C #decision·decide-delivery) (DecideDelivery 𝓤 H A at-mem run)) where
   meets : Meets 𝓤 H A this.signature (WpFn 𝓤 H (𝓣 .C) (𝓣 .Λ) code.function) (this.spec 𝓤 H A at-mem run)
   meets = framed 𝓤 H A W (a-call ∷ []) a-decision (this.clauses 𝓤 H A at-mem run) (λ κs n a. Unit {0}) (λ κs n a r m. (decided r ≡ decisionOn n (a .0)) × (m ≡ n))
@@ -220,9 +220,9 @@ decide-spec 𝓤 H 𝓜 𝓖 𝓡 =
     (tables 𝓤 H 𝓜 𝓡 code.env .C) (tables 𝓤 H 𝓜 𝓡 code.env .Λ) #ruling·in-place·decide code.function (code.unfolded 𝓤 H 𝓜 𝓡)
     (meets 𝓤 H (𝓖 .A) (givenOf 𝓤 H 𝓜 𝓖) (𝓜 .mem) (𝓡 .run) (tablesOf 𝓤 H 𝓜 (tables 𝓤 H 𝓜 𝓡 code.env))
     (cited 𝓤 H (Spots-of 𝓤 H (𝓖 .A) (𝓜 .mem) (𝓡 .run)) 𝓜 𝓡 code.env #settling·spots spots-def.routine code.calls-settling·spots (spots-met.met 𝓤 H 𝓜 𝓖 𝓡))
-    (cited 𝓤 H (Look 𝓤 H (𝓖 .A) (𝓜 .mem) (𝓡 .run)) 𝓜 𝓡 code.env #stores·look look-def.routine code.calls-stores·look (look-met.met 𝓤 H 𝓜 𝓖 𝓡))
-    (cited 𝓤 H (Find 𝓤 H (𝓖 .A) (𝓜 .mem) (𝓡 .run)) 𝓜 𝓡 code.env #stores·find find-def.routine code.calls-stores·find (find-met.met 𝓤 H 𝓜 𝓖 𝓡))
+    (cited 𝓤 H (Look 𝓤 H (𝓖 .A) (𝓜 .mem) (𝓡 .run)) 𝓜 𝓡 code.env #readings·look look-def.routine code.calls-readings·look (look-met.met 𝓤 H 𝓜 𝓖 𝓡))
+    (cited 𝓤 H (Find 𝓤 H (𝓖 .A) (𝓜 .mem) (𝓡 .run)) 𝓜 𝓡 code.env #readings·find find-def.routine code.calls-readings·find (find-met.met 𝓤 H 𝓜 𝓖 𝓡))
     (cited 𝓤 H (DecideOrder 𝓤 H (𝓖 .A) (𝓜 .mem) (𝓡 .run)) 𝓜 𝓡 code.env #decision·decide-order decide-order-def.routine code.calls-decision·decide-order (decide-order-met.met 𝓤 H 𝓜 𝓖 𝓡))
-    (cited 𝓤 H (Meet 𝓤 H (𝓖 .A) (𝓜 .mem) (𝓡 .run)) 𝓜 𝓡 code.env #stores·meet meet-def.routine code.calls-stores·meet (meet-met.met 𝓤 H 𝓜 𝓖 𝓡))
+    (cited 𝓤 H (Meet 𝓤 H (𝓖 .A) (𝓜 .mem) (𝓡 .run)) 𝓜 𝓡 code.env #readings·meet meet-def.routine code.calls-readings·meet (meet-met.met 𝓤 H 𝓜 𝓖 𝓡))
     (cited 𝓤 H (DecideDelivery 𝓤 H (𝓖 .A) (𝓜 .mem) (𝓡 .run)) 𝓜 𝓡 code.env #decision·decide-delivery decide-delivery-def.routine code.calls-decision·decide-delivery
     (decide-delivery-met.met 𝓤 H 𝓜 𝓖 𝓡)))

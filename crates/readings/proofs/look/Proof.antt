@@ -1,4 +1,4 @@
--- `stores::look` meets its contract: a walk of its MIR, by hand. Fields and nodes are read where they lie, at places that `%` brings into
+-- `readings::look` meets its contract: a walk of its MIR, by hand. Fields and nodes are read where they lie, at places that `%` brings into
 -- range, and make up the sight; the network stays as it is. No array is copied. Assumes nothing.
 use Prim.Native.Nat.{ℕ, _%_}
 use mathlib.Core.Path.{_≡_, refl}
@@ -35,17 +35,17 @@ use Rattle.access.proofs.Spots as spots
 use Rattle.access.proofs.Spots.Laws as spots-laws
 use Rattle.access.proofs.Sight as sight
 use Rattle.access.proofs.Sight.Laws as sight-laws
 use Rattle.stores.proofs.Ending.{frees-all}
 use Rattle.stores.proofs.Locals.{var, sets, resets, offsets}
 use Rattle.stores.proofs.Inside.{look-by}
 use Rattle.stores.proofs.Data.{word}
 use Rattle.stores.proofs.Frame.{Held, Gives, gives, framed}
 use Rattle.stores.proofs.Places.{Known, known, lies, node-typed, count-shows, waiting-shows}
 use Rattle.stores.proofs.Reading.{some-spots, a-sight, SpotsIs, reads-node, node-seen, made, sees}
-use Rattle.stores.proofs.look as this
-use Rattle.stores.proofs.look.Key.{name as #stores·look}
-use Rattle.stores.proofs.look.Statement.{statement}
-use Rattle.stores.proofs.look.Code as code
+use Rattle.readings.proofs.look as this
+use Rattle.readings.proofs.look.Key.{name as #readings·look}
+use Rattle.readings.proofs.look.Statement.{statement}
+use Rattle.readings.proofs.look.Code as code
 
 module _ {M : Type 1} (𝓤 : URA M) (H : Heap 𝓤) (A : Atoms 𝓤) (W : Given 𝓤 H A) (𝓣 : Tables 𝓤 H)
     (κ : Lft) (q : Share) (b o : ℕ) (γ : GName) (n : Network) (s : Spots) where
@@ -113,5 +113,5 @@ pub look-spec : {M : Type 1} → statement M
 unfolding code.routine tablesOf
 look-spec 𝓤 H 𝓜 𝓖 𝓡 =
     entered 𝓤 H (tripleOf 𝓤 H (𝓖 .A) this.signature (this.spec 𝓤 H (𝓖 .A) (𝓜 .mem) (𝓡 .run)))
-    (tables 𝓤 H 𝓜 𝓡 code.env .C) (tables 𝓤 H 𝓜 𝓡 code.env .Λ) #stores·look code.function (code.unfolded 𝓤 H 𝓜 𝓡)
+    (tables 𝓤 H 𝓜 𝓡 code.env .C) (tables 𝓤 H 𝓜 𝓡 code.env .Λ) #readings·look code.function (code.unfolded 𝓤 H 𝓜 𝓡)
     (meets 𝓤 H (𝓖 .A) (givenOf 𝓤 H 𝓜 𝓖) (𝓜 .mem) (𝓡 .run) (tablesOf 𝓤 H 𝓜 (tables 𝓤 H 𝓜 𝓡 code.env)))

@@ -1,4 +1,4 @@
--- `stores::notice_waits` meets its contract: a walk of its MIR, by hand. The borrow stays open around the loop, which only reads: each message once, by a test of it. No array is
+-- `readings::notice_waits` meets its contract: a walk of its MIR, by hand. The borrow stays open around the loop, which only reads: each message once, by a test of it. No array is
 -- copied. Assumes nothing.
 use Prim.Native.Nat.{ℕ, _+_, _-_, _<_, _≤_, _^_}
 use native.Mathlib.Omega.{arith}
@@ -35,17 +35,17 @@ use Rattle.network.specs.declared.Network.{Network}
 use Rattle.network.proofs.Network as net
 use Rattle.network.proofs.Walking.{by-cases}
 use Rattle.searches.specs.Searches.{least as leastOf, noticeWaits}
 use Rattle.stores.proofs.Ending.{frees-all}
 use Rattle.stores.proofs.Locals.{var, sets, resets, lands-in, lands-again, offsets}
 use Rattle.stores.proofs.Straight.{loops-on, turns-on, leaves-while}
 use Rattle.stores.proofs.Inside.{look-by}
 use Rattle.stores.proofs.Data.{a-number, a-byte, a-flag}
 use Rattle.stores.proofs.Calling.{calls-plain}
 use Rattle.stores.proofs.Frame.{Held, Gives, gives, framed}
 use Rattle.stores.proofs.Places.{Known, known, lies, message-typed, waiting-shows}
 use Rattle.stores.proofs.Reading.{a-message}
 use Rattle.searches.proofs.Searches.{within, notices, notices-none, notices-more, notices-all}
-use Rattle.stores.proofs.Searching.{at-message, message-there, Inv, into}
+use Rattle.readings.proofs.Searching.{at-message, message-there, Inv, into}
 use Rattle.searches.proofs.least as least
 use Rattle.searches.proofs.least.Symbol as least-def
 use Rattle.searches.proofs.least.Symbol.{name as #searches·least}
@@ -54,11 +54,11 @@ use Rattle.searches.proofs.is_notice_to as is-notice-to
 use Rattle.searches.proofs.is_notice_to.Symbol as is-notice-to-def
 use Rattle.searches.proofs.is_notice_to.Symbol.{name as #searches·is-notice-to}
 use Rattle.searches.proofs.is_notice_to.Met as is-notice-to-met
-use Rattle.stores.proofs.notice_waits.Code.Mir as steps
-use Rattle.stores.proofs.notice_waits as this
-use Rattle.stores.proofs.notice_waits.Key.{name as #stores·notice-waits}
-use Rattle.stores.proofs.notice_waits.Statement.{statement}
-use Rattle.stores.proofs.notice_waits.Code as code
+use Rattle.readings.proofs.notice_waits.Code.Mir as steps
+use Rattle.readings.proofs.notice_waits as this
+use Rattle.readings.proofs.notice_waits.Key.{name as #readings·notice-waits}
+use Rattle.readings.proofs.notice_waits.Statement.{statement}
+use Rattle.readings.proofs.notice_waits.Code as code
 
 -- ---- the contracts of the functions that it calls
 module _ {M : Type 1} (𝓤 : URA M) (H : Heap 𝓤) (A : Atoms 𝓤) (at-mem : Memory → SProp 𝓤) (run : Routine → Fun 𝓤) where
@@ -149,7 +149,7 @@ pub notice-waits-spec : {M : Type 1} → statement M
 unfolding code.routine tablesOf
 notice-waits-spec 𝓤 H 𝓜 𝓖 𝓡 =
     entered 𝓤 H (tripleOf 𝓤 H (𝓖 .A) this.signature (this.spec 𝓤 H (𝓖 .A) (𝓜 .mem) (𝓡 .run)))
-    (tables 𝓤 H 𝓜 𝓡 code.env .C) (tables 𝓤 H 𝓜 𝓡 code.env .Λ) #stores·notice-waits code.function (code.unfolded 𝓤 H 𝓜 𝓡)
+    (tables 𝓤 H 𝓜 𝓡 code.env .C) (tables 𝓤 H 𝓜 𝓡 code.env .Λ) #readings·notice-waits code.function (code.unfolded 𝓤 H 𝓜 𝓡)
     (meets 𝓤 H (𝓖 .A) (givenOf 𝓤 H 𝓜 𝓖) (𝓜 .mem) (𝓡 .run) (tablesOf 𝓤 H 𝓜 (tables 𝓤 H 𝓜 𝓡 code.env))
     (cited 𝓤 H (Least 𝓤 H (𝓖 .A) (𝓜 .mem) (𝓡 .run)) 𝓜 𝓡 code.env #searches·least least-def.routine code.calls-searches·least (least-met.met 𝓤 H 𝓜 𝓖 𝓡))
     (cited 𝓤 H (Test 𝓤 H (𝓖 .A) (𝓜 .mem) (𝓡 .run)) 𝓜 𝓡 code.env #searches·is-notice-to is-notice-to-def.routine code.calls-searches·is-notice-to (is-notice-to-met.met 𝓤 H 𝓜 𝓖 𝓡)))

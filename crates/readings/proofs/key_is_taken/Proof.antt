@@ -1,4 +1,4 @@
--- `stores::key_is_taken` meets its contract: a walk of its MIR, by hand. The borrow stays open around the loop, which only reads: each node once, by a test of its key. No array is
+-- `readings::key_is_taken` meets its contract: a walk of its MIR, by hand. The borrow stays open around the loop, which only reads: each node once, by a test of its key. No array is
 -- copied. Assumes nothing.
 use Prim.Native.Nat.{ℕ, _+_, _-_, _<_, _≤_, _^_}
 use native.Mathlib.Omega.{arith}
@@ -34,16 +34,16 @@ use Rattle.network.specs.declared.Network.{Network}
 use Rattle.network.proofs.Network as net
 use Rattle.network.proofs.Walking.{by-cases}
 use Rattle.searches.specs.Searches.{least as leastOf, keyIsTaken}
 use Rattle.stores.proofs.Ending.{frees-all}
 use Rattle.stores.proofs.Locals.{var, sets, resets, lands-in, lands-again, offsets}
 use Rattle.stores.proofs.Straight.{loops-on, turns-on, leaves-while}
 use Rattle.stores.proofs.Inside.{look-by}
 use Rattle.stores.proofs.Data.{a-number, a-byte, a-flag}
 use Rattle.stores.proofs.Calling.{calls-plain}
 use Rattle.stores.proofs.Frame.{Held, Gives, gives, framed}
 use Rattle.stores.proofs.Places.{a-node, Known, known, lies, node-typed, count-shows}
 use Rattle.searches.proofs.Searches.{within, others, others-none, others-more, others-all}
-use Rattle.stores.proofs.Searching.{at-node, node-there, Inv, into}
+use Rattle.readings.proofs.Searching.{at-node, node-there, Inv, into}
 use Rattle.searches.proofs.least as least
 use Rattle.searches.proofs.least.Symbol as least-def
 use Rattle.searches.proofs.least.Symbol.{name as #searches·least}
@@ -52,11 +52,11 @@ use Rattle.searches.proofs.has_other_key as has-other-key
 use Rattle.searches.proofs.has_other_key.Symbol as has-other-key-def
 use Rattle.searches.proofs.has_other_key.Symbol.{name as #searches·has-other-key}
 use Rattle.searches.proofs.has_other_key.Met as has-other-key-met
-use Rattle.stores.proofs.key_is_taken.Code.Mir as steps
-use Rattle.stores.proofs.key_is_taken as this
-use Rattle.stores.proofs.key_is_taken.Key.{name as #stores·key-is-taken}
-use Rattle.stores.proofs.key_is_taken.Statement.{statement}
-use Rattle.stores.proofs.key_is_taken.Code as code
+use Rattle.readings.proofs.key_is_taken.Code.Mir as steps
+use Rattle.readings.proofs.key_is_taken as this
+use Rattle.readings.proofs.key_is_taken.Key.{name as #readings·key-is-taken}
+use Rattle.readings.proofs.key_is_taken.Statement.{statement}
+use Rattle.readings.proofs.key_is_taken.Code as code
 
 -- ---- the contracts of the functions that it calls
 module _ {M : Type 1} (𝓤 : URA M) (H : Heap 𝓤) (A : Atoms 𝓤) (at-mem : Memory → SProp 𝓤) (run : Routine → Fun 𝓤) where
@@ -147,7 +147,7 @@ pub key-is-taken-spec : {M : Type 1} → statement M
 unfolding code.routine tablesOf
 key-is-taken-spec 𝓤 H 𝓜 𝓖 𝓡 =
     entered 𝓤 H (tripleOf 𝓤 H (𝓖 .A) this.signature (this.spec 𝓤 H (𝓖 .A) (𝓜 .mem) (𝓡 .run)))
-    (tables 𝓤 H 𝓜 𝓡 code.env .C) (tables 𝓤 H 𝓜 𝓡 code.env .Λ) #stores·key-is-taken code.function (code.unfolded 𝓤 H 𝓜 𝓡)
+    (tables 𝓤 H 𝓜 𝓡 code.env .C) (tables 𝓤 H 𝓜 𝓡 code.env .Λ) #readings·key-is-taken code.function (code.unfolded 𝓤 H 𝓜 𝓡)
     (meets 𝓤 H (𝓖 .A) (givenOf 𝓤 H 𝓜 𝓖) (𝓜 .mem) (𝓡 .run) (tablesOf 𝓤 H 𝓜 (tables 𝓤 H 𝓜 𝓡 code.env))
     (cited 𝓤 H (Least 𝓤 H (𝓖 .A) (𝓜 .mem) (𝓡 .run)) 𝓜 𝓡 code.env #searches·least least-def.routine code.calls-searches·least (least-met.met 𝓤 H 𝓜 𝓖 𝓡))
     (cited 𝓤 H (Test 𝓤 H (𝓖 .A) (𝓜 .mem) (𝓡 .run)) 𝓜 𝓡 code.env #searches·has-other-key has-other-key-def.routine code.calls-searches·has-other-key (has-other-key-met.met 𝓤 H 𝓜 𝓖 𝓡)))

@@ -1,4 +1,4 @@
--- `stores::some_stands` meets its contract: a walk of its MIR, by hand. The borrow stays open around the loop, which only reads: each node once, by a test of its status. No array is
+-- `readings::some_stands` meets its contract: a walk of its MIR, by hand. The borrow stays open around the loop, which only reads: each node once, by a test of its status. No array is
 -- copied. Assumes nothing.
 use Prim.Native.Nat.{ℕ, _+_, _-_, _<_, _≤_}
 use native.Mathlib.Omega.{arith}
@@ -35,16 +35,16 @@ use Rattle.network.specs.declared.Network.{Network}
 use Rattle.network.proofs.Network as net
 use Rattle.network.proofs.Walking.{by-cases}
 use Rattle.searches.specs.Searches.{least as leastOf, someStands}
 use Rattle.stores.proofs.Ending.{frees-all}
 use Rattle.stores.proofs.Locals.{var, sets, resets, lands-in, lands-again, offsets}
 use Rattle.stores.proofs.Straight.{loops-on, turns-on, leaves-while}
 use Rattle.stores.proofs.Inside.{look-by}
 use Rattle.stores.proofs.Data.{a-number, a-byte, a-flag}
 use Rattle.stores.proofs.Calling.{calls-plain}
 use Rattle.stores.proofs.Frame.{Held, Gives, gives, framed}
 use Rattle.stores.proofs.Places.{a-node, Known, known, lies, node-typed, count-shows}
 use Rattle.searches.proofs.Searches.{within, outs, outs-none, outs-more, outs-all}
-use Rattle.stores.proofs.Searching.{at-node, node-there, Inv, into}
+use Rattle.readings.proofs.Searching.{at-node, node-there, Inv, into}
 use Rattle.searches.proofs.least as least
 use Rattle.searches.proofs.least.Symbol as least-def
 use Rattle.searches.proofs.least.Symbol.{name as #searches·least}
@@ -53,11 +53,11 @@ use Rattle.searches.proofs.is_out as is-out
 use Rattle.searches.proofs.is_out.Symbol as is-out-def
 use Rattle.searches.proofs.is_out.Symbol.{name as #searches·is-out}
 use Rattle.searches.proofs.is_out.Met as is-out-met
-use Rattle.stores.proofs.some_stands.Code.Mir as steps
-use Rattle.stores.proofs.some_stands as this
-use Rattle.stores.proofs.some_stands.Key.{name as #stores·some-stands}
-use Rattle.stores.proofs.some_stands.Statement.{statement}
-use Rattle.stores.proofs.some_stands.Code as code
+use Rattle.readings.proofs.some_stands.Code.Mir as steps
+use Rattle.readings.proofs.some_stands as this
+use Rattle.readings.proofs.some_stands.Key.{name as #readings·some-stands}
+use Rattle.readings.proofs.some_stands.Statement.{statement}
+use Rattle.readings.proofs.some_stands.Code as code
 
 -- ---- the contracts of the functions that it calls
 module _ {M : Type 1} (𝓤 : URA M) (H : Heap 𝓤) (A : Atoms 𝓤) (at-mem : Memory → SProp 𝓤) (run : Routine → Fun 𝓤) where
@@ -148,7 +148,7 @@ pub some-stands-spec : {M : Type 1} → statement M
 unfolding code.routine tablesOf
 some-stands-spec 𝓤 H 𝓜 𝓖 𝓡 =
     entered 𝓤 H (tripleOf 𝓤 H (𝓖 .A) this.signature (this.spec 𝓤 H (𝓖 .A) (𝓜 .mem) (𝓡 .run)))
-    (tables 𝓤 H 𝓜 𝓡 code.env .C) (tables 𝓤 H 𝓜 𝓡 code.env .Λ) #stores·some-stands code.function (code.unfolded 𝓤 H 𝓜 𝓡)
+    (tables 𝓤 H 𝓜 𝓡 code.env .C) (tables 𝓤 H 𝓜 𝓡 code.env .Λ) #readings·some-stands code.function (code.unfolded 𝓤 H 𝓜 𝓡)
     (meets 𝓤 H (𝓖 .A) (givenOf 𝓤 H 𝓜 𝓖) (𝓜 .mem) (𝓡 .run) (tablesOf 𝓤 H 𝓜 (tables 𝓤 H 𝓜 𝓡 code.env))
     (cited 𝓤 H (Least 𝓤 H (𝓖 .A) (𝓜 .mem) (𝓡 .run)) 𝓜 𝓡 code.env #searches·least least-def.routine code.calls-searches·least (least-met.met 𝓤 H 𝓜 𝓖 𝓡))
     (cited 𝓤 H (Test 𝓤 H (𝓖 .A) (𝓜 .mem) (𝓡 .run)) 𝓜 𝓡 code.env #searches·is-out is-out-def.routine code.calls-searches·is-out (is-out-met.met 𝓤 H 𝓜 𝓖 𝓡)))

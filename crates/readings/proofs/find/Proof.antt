@@ -1,4 +1,4 @@
--- `stores::find` meets its contract: a walk of its MIR, by hand, with an arm for each kind of order. Each search is a call that the network is lent
+-- `readings::find` meets its contract: a walk of its MIR, by hand, with an arm for each kind of order. Each search is a call that the network is lent
 -- to, and leaves it as it is. Assumes nothing.
 use Prim.Native.Nat.{ℕ, _<_, _^_}
 use mathlib.Core.Path.{_≡_, refl, sym, subst, _∙_}
@@ -38,32 +38,32 @@ use Rattle.network.proofs.Network as net
 use Rattle.searches.specs.declared.Found.{Found}
 use Rattle.searches.specs.Searches.{keyIsTaken, someStands, noticeWaits, foundOf}
 use Rattle.searches.proofs.Found.Laws as found-laws
 use Rattle.stores.proofs.Locals.{var, sets, lands-in}
 use Rattle.stores.proofs.Ending.{frees-all}
 use Rattle.stores.proofs.Variants.{tag-of, field-of}
 use Rattle.stores.proofs.Straight.{switch-to, joins, by-name}
 use Rattle.stores.proofs.Data.{a-number, a-byte, a-flag, word}
 use Rattle.stores.proofs.Frame.{Held, Gives, gives, framed}
 use Rattle.stores.proofs.Places.{lies}
 use Rattle.stores.proofs.Lending.{Lends, lends, calls-giving}
 use Rattle.searches.proofs.Searches.{told, declare-finds, create-finds, join-finds, leave-finds}
 use Rattle.stores.proofs.Reading.{a-find, an-order, OrderIs, FoundIs, told-is, found-typed, by-order}
-use Rattle.stores.proofs.key_is_taken as key-is-taken
-use Rattle.stores.proofs.key_is_taken.Symbol as key-is-taken-def
-use Rattle.stores.proofs.key_is_taken.Symbol.{name as #stores·key-is-taken}
-use Rattle.stores.proofs.key_is_taken.Met as key-is-taken-met
-use Rattle.stores.proofs.some_stands as some-stands
-use Rattle.stores.proofs.some_stands.Symbol as some-stands-def
-use Rattle.stores.proofs.some_stands.Symbol.{name as #stores·some-stands}
-use Rattle.stores.proofs.some_stands.Met as some-stands-met
-use Rattle.stores.proofs.notice_waits as notice-waits
-use Rattle.stores.proofs.notice_waits.Symbol as notice-waits-def
-use Rattle.stores.proofs.notice_waits.Symbol.{name as #stores·notice-waits}
-use Rattle.stores.proofs.notice_waits.Met as notice-waits-met
-use Rattle.stores.proofs.find as this
-use Rattle.stores.proofs.find.Key.{name as #stores·find}
-use Rattle.stores.proofs.find.Statement.{statement}
-use Rattle.stores.proofs.find.Code as code
+use Rattle.readings.proofs.key_is_taken as key-is-taken
+use Rattle.readings.proofs.key_is_taken.Symbol as key-is-taken-def
+use Rattle.readings.proofs.key_is_taken.Symbol.{name as #readings·key-is-taken}
+use Rattle.readings.proofs.key_is_taken.Met as key-is-taken-met
+use Rattle.readings.proofs.some_stands as some-stands
+use Rattle.readings.proofs.some_stands.Symbol as some-stands-def
+use Rattle.readings.proofs.some_stands.Symbol.{name as #readings·some-stands}
+use Rattle.readings.proofs.some_stands.Met as some-stands-met
+use Rattle.readings.proofs.notice_waits as notice-waits
+use Rattle.readings.proofs.notice_waits.Symbol as notice-waits-def
+use Rattle.readings.proofs.notice_waits.Symbol.{name as #readings·notice-waits}
+use Rattle.readings.proofs.notice_waits.Met as notice-waits-met
+use Rattle.readings.proofs.find as this
+use Rattle.readings.proofs.find.Key.{name as #readings·find}
+use Rattle.readings.proofs.find.Statement.{statement}
+use Rattle.readings.proofs.find.Code as code
 
 -- ---- the functions that it calls: each one's contract, and that it can be lent a network
 module _ {M : Type 1} (𝓤 : URA M) (H : Heap 𝓤) (A : Atoms 𝓤) (at-mem : Memory → SProp 𝓤) (run : Routine → Fun 𝓤) where
@@ -94,9 +94,9 @@ module _ {M : Type 1} (𝓤 : URA M) (H : Heap 𝓤) (A : Atoms 𝓤) (W : Given
 
 -- ---- the walk
 module _ {M : Type 1} (𝓤 : URA M) (H : Heap 𝓤) (A : Atoms 𝓤) (W : Given 𝓤 H A) (at-mem : Memory → SProp 𝓤) (run : Routine → Fun 𝓤) (𝓣 : Tables 𝓤 H)
-    (known-key : Triple 𝓤 (𝓣 .C #stores·key-is-taken) (KeyIsTaken 𝓤 H A at-mem run))
-    (known-stands : Triple 𝓤 (𝓣 .C #stores·some-stands) (SomeStands 𝓤 H A at-mem run))
-    (known-notice : Triple 𝓤 (𝓣 .C #stores·notice-waits) (NoticeWaits 𝓤 H A at-mem run))
+    (known-key : Triple 𝓤 (𝓣 .C #readings·key-is-taken) (KeyIsTaken 𝓤 H A at-mem run))
+    (known-stands : Triple 𝓤 (𝓣 .C #readings·some-stands) (SomeStands 𝓤 H A at-mem run))
+    (known-notice : Triple 𝓤 (𝓣 .C #readings·notice-waits) (NoticeWaits 𝓤 H A at-mem run))
     (κ : Lft) (q : Share) (b o : ℕ) (γ : GName) (n : Network) (c : Order) where
   abbrev Φ : Found → Network → Type 0
   Φ r m = (r ≡ foundOf n c) × (m ≡ n)
@@ -173,9 +173,9 @@ module _ {M : Type 1} (𝓤 : URA M) (H : Heap 𝓤) (A : Atoms 𝓤) (W : Given
       by ! (gives 𝓤 H A (a-find .row) Φ κ q b o γ (word a-find r) r m (f .0) (f .1))))))))))))))))))
 
 module _ {M : Type 1} (𝓤 : URA M) (H : Heap 𝓤) (A : Atoms 𝓤) (W : Given 𝓤 H A) (at-mem : Memory → SProp 𝓤) (run : Routine → Fun 𝓤) (𝓣 : Tables 𝓤 H)
-    (known-key : Triple 𝓤 (𝓣 .C #stores·key-is-taken) (KeyIsTaken 𝓤 H A at-mem run))
-    (known-stands : Triple 𝓤 (𝓣 .C #stores·some-stands) (SomeStands 𝓤 H A at-mem run))
-    (known-notice : Triple 𝓤 (𝓣 .C #stores·notice-waits) (NoticeWaits 𝓤 H A at-mem run)) where
+    (known-key : Triple 𝓤 (𝓣 .C #readings·key-is-taken) (KeyIsTaken 𝓤 H A at-mem run))
+    (known-stands : Triple 𝓤 (𝓣 .C #readings·some-stands) (SomeStands 𝓤 H A at-mem run))
+    (known-notice : Triple 𝓤 (𝓣 .C #readings·notice-waits) (NoticeWaits 𝓤 H A at-mem run)) where
   meets : Meets 𝓤 H A this.signature (WpFn 𝓤 H (𝓣 .C) (𝓣 .Λ) code.function) (this.spec 𝓤 H A at-mem run)
   meets = framed 𝓤 H A W (an-order ∷ []) a-find (this.clauses 𝓤 H A at-mem run) (λ κs n a. Unit {0}) (λ κs n a r m. (r ≡ foundOf n (a .0)) × (m ≡ n))
       (λ κs x a g. factI 𝓤 (Unit {0}) _ tt) (λ κs x a g r m. id⊢ 𝓤 _) (WpFn 𝓤 H (𝓣 .C) (𝓣 .Λ) code.function) (WpFn-mono 𝓤 H (W .laws) 𝓣 code.function)
@@ -185,11 +185,11 @@ pub find-spec : {M : Type 1} → statement M
 unfolding code.routine tablesOf
 find-spec 𝓤 H 𝓜 𝓖 𝓡 =
     entered 𝓤 H (tripleOf 𝓤 H (𝓖 .A) this.signature (this.spec 𝓤 H (𝓖 .A) (𝓜 .mem) (𝓡 .run)))
-    (tables 𝓤 H 𝓜 𝓡 code.env .C) (tables 𝓤 H 𝓜 𝓡 code.env .Λ) #stores·find code.function (code.unfolded 𝓤 H 𝓜 𝓡)
+    (tables 𝓤 H 𝓜 𝓡 code.env .C) (tables 𝓤 H 𝓜 𝓡 code.env .Λ) #readings·find code.function (code.unfolded 𝓤 H 𝓜 𝓡)
     (meets 𝓤 H (𝓖 .A) (givenOf 𝓤 H 𝓜 𝓖) (𝓜 .mem) (𝓡 .run) (tablesOf 𝓤 H 𝓜 (tables 𝓤 H 𝓜 𝓡 code.env))
-    (cited 𝓤 H (KeyIsTaken 𝓤 H (𝓖 .A) (𝓜 .mem) (𝓡 .run)) 𝓜 𝓡 code.env #stores·key-is-taken key-is-taken-def.routine code.calls-stores·key-is-taken
+    (cited 𝓤 H (KeyIsTaken 𝓤 H (𝓖 .A) (𝓜 .mem) (𝓡 .run)) 𝓜 𝓡 code.env #readings·key-is-taken key-is-taken-def.routine code.calls-readings·key-is-taken
     (key-is-taken-met.met 𝓤 H 𝓜 𝓖 𝓡))
-    (cited 𝓤 H (SomeStands 𝓤 H (𝓖 .A) (𝓜 .mem) (𝓡 .run)) 𝓜 𝓡 code.env #stores·some-stands some-stands-def.routine code.calls-stores·some-stands
+    (cited 𝓤 H (SomeStands 𝓤 H (𝓖 .A) (𝓜 .mem) (𝓡 .run)) 𝓜 𝓡 code.env #readings·some-stands some-stands-def.routine code.calls-readings·some-stands
     (some-stands-met.met 𝓤 H 𝓜 𝓖 𝓡))
-    (cited 𝓤 H (NoticeWaits 𝓤 H (𝓖 .A) (𝓜 .mem) (𝓡 .run)) 𝓜 𝓡 code.env #stores·notice-waits notice-waits-def.routine code.calls-stores·notice-waits
+    (cited 𝓤 H (NoticeWaits 𝓤 H (𝓖 .A) (𝓜 .mem) (𝓡 .run)) 𝓜 𝓡 code.env #readings·notice-waits notice-waits-def.routine code.calls-readings·notice-waits
     (notice-waits-met.met 𝓤 H 𝓜 𝓖 𝓡)))

@@ -1,4 +1,4 @@
--- `stores::meet` meets its contract: a walk of its MIR, by hand. A message and the node that it is for are read where they lie, at places
+-- `readings::meet` meets its contract: a walk of its MIR, by hand. A message and the node that it is for are read where they lie, at places
 -- that `%` brings into range, and make up the arrival; the network stays as it is. No array is copied. Assumes nothing.
 use Prim.Native.Nat.{ℕ, _<_, _%_, _^_}
 use mathlib.Core.Path.{_≡_, refl}
@@ -33,17 +33,17 @@ use Rattle.access.specs.declared.Arrival.{Arrival}
 use Rattle.access.specs.Sights.{arrivalOf}
 use Rattle.access.proofs.Arrival as arrival
 use Rattle.access.proofs.Arrival.Laws as arrival-laws
 use Rattle.stores.proofs.Ending.{frees-all}
 use Rattle.stores.proofs.Locals.{var, sets, resets, offsets}
 use Rattle.stores.proofs.Inside.{look-by}
 use Rattle.stores.proofs.Data.{word, a-byte}
 use Rattle.stores.proofs.Frame.{Held, Gives, gives, framed}
 use Rattle.stores.proofs.Places.{Known, known, lies, node-typed, message-typed, waiting-shows}
 use Rattle.stores.proofs.Reading.{an-arrival, reads-node, reads-message, node-seen, message-seen, brought, arrives}
-use Rattle.stores.proofs.meet as this
-use Rattle.stores.proofs.meet.Key.{name as #stores·meet}
-use Rattle.stores.proofs.meet.Statement.{statement}
-use Rattle.stores.proofs.meet.Code as code
+use Rattle.readings.proofs.meet as this
+use Rattle.readings.proofs.meet.Key.{name as #readings·meet}
+use Rattle.readings.proofs.meet.Statement.{statement}
+use Rattle.readings.proofs.meet.Code as code
 
 module _ {M : Type 1} (𝓤 : URA M) (H : Heap 𝓤) (A : Atoms 𝓤) (W : Given 𝓤 H A) (𝓣 : Tables 𝓤 H)
     (κ : Lft) (q : Share) (b o : ℕ) (γ : GName) (n : Network) (p : ℕ) where
@@ -100,5 +100,5 @@ pub meet-spec : {M : Type 1} → statement M
 unfolding code.routine tablesOf
 meet-spec 𝓤 H 𝓜 𝓖 𝓡 =
     entered 𝓤 H (tripleOf 𝓤 H (𝓖 .A) this.signature (this.spec 𝓤 H (𝓖 .A) (𝓜 .mem) (𝓡 .run)))
-    (tables 𝓤 H 𝓜 𝓡 code.env .C) (tables 𝓤 H 𝓜 𝓡 code.env .Λ) #stores·meet code.function (code.unfolded 𝓤 H 𝓜 𝓡)
+    (tables 𝓤 H 𝓜 𝓡 code.env .C) (tables 𝓤 H 𝓜 𝓡 code.env .Λ) #readings·meet code.function (code.unfolded 𝓤 H 𝓜 𝓡)
     (meets 𝓤 H (𝓖 .A) (givenOf 𝓤 H 𝓜 𝓖) (𝓜 .mem) (𝓡 .run) (tablesOf 𝓤 H 𝓜 (tables 𝓤 H 𝓜 𝓡 code.env)))
