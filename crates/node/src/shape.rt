@@ -1,28 +1,11 @@
-// The record of a node just declared, and the tests of what is handed in to a step.
+// The tests of what is handed in to a step.
 ghost use mathlib.Core.Path.{_≡_};
-ghost use Rattle.node.specs.Shape.{declaredOf, nodeFits, wellFormed, deliverable, peerFits};
+ghost use Rattle.node.specs.Shape.{nodeFits, wellFormed, deliverable, peerFits};
 use crate::Node;
 use crate::Peer;
-use parts::Link;
 use parts::Message;
-use parts::Seq;
-use parts::Status;
 
 impl Node {
-    // The record of a node just declared.
-    pub fn declared(key: u32) -> Node
-        ensures { λ r. ⌜ r ≡ declaredOf key ⌝ }
-    {
-        Node {
-            status: Status::Out,
-            key,
-            left: Link::Unlinked,
-            right: Link::Unlinked,
-            lseq: sequence::first(),
-            rseq: Seq::Unset,
-        }
-    }
-
     // Whether the node is well formed among the first `count` nodes.
     pub fn fits(self, count: u8) -> bool
         ensures { λ r. ⌜ r ≡ nodeFits count self ⌝ }
@@ -31,10 +14,7 @@ impl Node {
         let left = self.left;
         let right = self.right;
         let rseq = self.rseq;
-        serial::in_range(self.key)
-            & ((parts::link_fits(left, count) & parts::link_fits(right, count))
-                & ((status.is_out() | (left.is_linked() & right.is_linked()))
-                    & (!status.is_in_or_del() | rseq.is_numbered())))
+        serial::in_range(self.key) & parts::links_fit(status, left, right, rseq, count)
     }
 }
 

@@ -1,17 +1,27 @@
--- When a link or a message is well formed among the first `count` nodes (paper 01: "in shape"). Definitions only.
+-- When a link, the links of a node, or a message are well formed among the first `count` nodes (paper 01: "in shape"). Definitions only.
 use Prim.Native.Nat.{ℕ}
-use mathlib.Core.Bool.{Bool, true, _&&_}
+use mathlib.Core.Bool.{Bool, true, not, _&&_, _||_}
 use lib.Dec.{ltb}
+use Rattle.parts.specs.declared.Status.{Status}
+use Rattle.parts.specs.declared.Seq.{Seq}
 use Rattle.parts.specs.declared.Link.{Link}
 use Rattle.parts.specs.declared.Link.the-variants.{Unlinked, To}
 use Rattle.parts.specs.declared.Kind.{Kind}
 use Rattle.parts.specs.declared.Kind.the-variants.{SetR, SetRAck, SetRNak, SetL}
 use Rattle.parts.specs.declared.Message.{Message}
+use Rattle.parts.specs.Tests.{isOut, isInOrDel, linked, numbered}
 
 -- a link that is there names one of the first `count` nodes
 abbrev pub linkFits : ℕ → Link → Bool
 linkFits count Unlinked = true
 linkFits count (To n) = ltb n count
+
+-- the links and the right number of a node: "bench numbers in links .. are declared; .. a bench not out has both links; a bench in or del has
+-- a right number"
+abbrev pub linksFit : ℕ → Status → Link → Link → Seq → Bool
+linksFit count status left right rseq =
+    (linkFits count left && linkFits count right)
+    && ((isOut status || (linked left && linked right)) && (not (isInOrDel status) || numbered rseq))
 
 abbrev pub kindFits : ℕ → Kind → Bool
 kindFits count (SetR new expected number) = ltb new count && ltb expected count

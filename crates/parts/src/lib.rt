@@ -6,6 +6,7 @@ mod shape;
 mod tests;
 
 pub use shape::link_fits;
+pub use shape::links_fit;
 
 pub enum Status {
     Out,

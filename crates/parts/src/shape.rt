@@ -1,9 +1,11 @@
-// Whether a link or a message is well formed among the first `count` nodes.
+// Whether a link, the links of a node, or a message are well formed among the first `count` nodes.
 ghost use mathlib.Core.Path.{_≡_};
-ghost use Rattle.parts.specs.Shape.{linkFits, kindFits, messageFits};
+ghost use Rattle.parts.specs.Shape.{linkFits, linksFit, kindFits, messageFits};
 use crate::Kind;
 use crate::Link;
 use crate::Message;
+use crate::Seq;
+use crate::Status;
 
 pub fn link_fits(link: Link, count: u8) -> bool
     ensures { λ r. ⌜ r ≡ linkFits count link ⌝ }
@@ -12,6 +14,15 @@ pub fn link_fits(link: Link, count: u8) -> bool
         Link::Unlinked => true,
         Link::To(n) => n < count,
     }
+}
+
+// The links and the right number of a node of this status.
+pub fn links_fit(status: Status, left: Link, right: Link, rseq: Seq, count: u8) -> bool
+    ensures { λ r. ⌜ r ≡ linksFit count status left right rseq ⌝ }
+{
+    (link_fits(left, count) & link_fits(right, count))
+        & ((status.is_out() | (left.is_linked() & right.is_linked()))
+            & (!status.is_in_or_del() | rseq.is_numbered()))
 }
 
 fn kind_fits(kind: Kind, count: u8) -> bool

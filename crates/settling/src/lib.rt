@@ -7,6 +7,7 @@ ghost use lib.Dec.{leb};
 ghost use Rattle.refusal.specs.Code.{reason};
 ghost use Rattle.refusal.specs.Rules.{checked, first, settled};
 ghost use Rattle.parts.specs.Posts.{posted as listed};
+ghost use Rattle.node.specs.Shape.{declaredOf};
 ghost use Rattle.node.specs.Actions.{effect, coded};
 ghost use Rattle.protocol.specs.Answer.{answered};
 ghost use Rattle.protocol.specs.Calls.{stepped};
@@ -18,7 +19,10 @@ use node::Node;
 use node::Peer;
 use node::Step;
 use node::Verdict;
+use parts::Link;
 use parts::Posts;
+use parts::Seq;
+use parts::Status;
 use protocol::Answer;
 use protocol::Order;
 use protocol::Reply;
@@ -139,11 +143,25 @@ pub fn delivering(place: u8, number: u8, step: Step) -> Decision
     }
 }
 
+// The record of a node just declared.
+pub fn declared(key: u32) -> Node
+    ensures { λ r. ⌜ r ≡ declaredOf key ⌝ }
+{
+    Node {
+        status: Status::Out,
+        key,
+        left: Link::Unlinked,
+        right: Link::Unlinked,
+        lseq: sequence::first(),
+        rseq: Seq::Unset,
+    }
+}
+
 pub fn adding(number: u8, key: u32) -> Decision
     ensures { λ r. ⌜ decided r ≡ adding number key ⌝ }
 {
     Decision {
-        change: Change::Add(Node::declared(key)),
+        change: Change::Add(declared(key)),
         report: Report {
             answer: Answer::Done(Reply::Declared { number, key }),
             posted: 0,

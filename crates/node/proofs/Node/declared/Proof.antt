@@ -1,9 +1,0 @@
--- `node::Node::declared` meets its contract. Assumes nothing.
-use Rattle.node.proofs.Node.declared.Statement.{statement}
-use Rattle.node.proofs.Node.declared.Tie as tie
-
-returns : tie.Need-returns
-returns c = simp (c .first .ensures)
-
-pub declared-spec : {M : Type 1} → statement M
-declared-spec = tie.close (tie.spec (λ c κs. tt) returns)
