@@ -2,13 +2,11 @@
 use mathlib.Core.Path.{_≡_, refl, ap}
 use mathlib.Core.Logic.{_≢_}
 use mathlib.Core.Bool.{true, false, not, _&&_}
-use mathlib.Core.Option.{none}
 use Prim.Native.Nat.{ℕ}
 use lib.Dec.{eqb}
-use borrow.Author.Tests.{not-false, eqb-true, eq-eqb, ne-eqb}
+use borrow.Author.Tests.{eqb-true, eq-eqb, ne-eqb}
 use Rattle.truth.proofs.Laws.{true-is-not-false, both}
-use Rattle.refusal.specs.Rules.{first}
-use Rattle.refusal.proofs.Laws.{Cleared, cleared}
+use Rattle.refusal.proofs.Laws.{Cleared}
 use Rattle.sequence.specs.Sequence.{nextSeq, hasNext, cappedNext}
 use Rattle.sequence.proofs.Laws.{capped-next}
 use Rattle.parts.specs.declared.Status.{Status}
@@ -21,7 +19,7 @@ use Rattle.node.specs.declared.Node.{Node}
 use Rattle.node.specs.declared.Peer.{Peer}
 use Rattle.node.specs.declared.Outcome.the-variants.{Created, Waiting, LeftAlone}
 use Rattle.node.specs.Shape.{wellFormed, peerFits}
-use Rattle.node.specs.Actions.{setR, setRAck, setL, withStatus, quiet, posting, createRules, created, createOf, joinRules, joining, joinFormed, joinOf, alone, leaveOwnRules, leaveRules, leaveFormed, leaveRequest, leaving, leaveOf, grants, relinked, granting, onSetR, actOf, receiveRules, receiveOf}
+use Rattle.node.specs.Actions.{setR, setRAck, setL, withStatus, quiet, posting, createRules, created, createOf, joinRules, joining, joinFormed, joinOf, alone, leaveRules, leaveFormed, leaveRequest, leaveOf, grants, relinked, granting, onSetR, actOf, receiveRules, receiveOf}
 
 -- ---- what the tests say
 pub tested-out : (s : Status) → isOut s ≡ true → s ≡ Out
@@ -53,18 +51,11 @@ granted p v new expected h =
     let b = both (linksTo (p .right) expected) _ (a .1) in
     record { is-in = a .0; right = b .0; room = λ e. rw e at b .1 }
 
--- ---- a leave that no rule refuses
-module _ (me : ℕ) (u : Node) where
-  pub leave-room : first (leaveOwnRules me u) ≡ none → alone me u ≡ false → hasNext (seqOf (u .rseq)) ≡ true
-  leave-room clear e =
-      let (_, (unspent, _)) = cleared (leaveOwnRules me u) clear in
-      not-false (hasNext (seqOf (u .rseq))) (rw e at unspent)
-
-  pub leaves-alone : alone me u ≡ true → quiet (withStatus Out u) LeftAlone ≡ leaving me u
-  leaves-alone e = rw e
-
-  pub leaves-by-request : alone me u ≡ false → hasNext (seqOf (u .rseq)) ≡ true → posting (withStatus Del u) (leaveRequest me u (cappedNext (seqOf (u .rseq)))) Waiting ≡ leaving me u
-  leaves-by-request e room = rw (e, capped-next (seqOf (u .rseq)) room)
+-- ---- a leave that asks: the capped number is the next one
+pub leave-asks : (me : ℕ) (u : Node) → isIn (u .status) ≡ true → alone me u ≡ false → hasNext (seqOf (u .rseq)) ≡ true
+    → posting (withStatus Del u) (leaveRequest me u (cappedNext (seqOf (u .rseq)))) Waiting ≡ leaveFormed me u
+unfolding leaveFormed
+leave-asks me u inside e room = rw (inside, e, room, capped-next (seqOf (u .rseq)) room)
 
 -- ---- what a step does that no rule of its own refuses, with each message spelled out
 module _ (me : ℕ) (u : Node) where

@@ -13,15 +13,24 @@ pub fn on_set_r_ack(node: Node, number: Number) -> Step
     ensures { λ r. ⌜ effect r ≡ onSetRAck (node .status) node number ⌝ }
 {
     let status = node.status;
-    let right = node.right;
     match status {
         Status::Out => steps::silent(node, Outcome::Dropped),
         Status::Ins => {
-            let numbered = steps::with_right(node, right, Seq::Is(number));
-            steps::silent(steps::with_status(numbered, Status::In), Outcome::Joined)
+            let joined = Node {
+                status: Status::In,
+                rseq: Seq::Is(number),
+                ..node
+            };
+            steps::silent(joined, Outcome::Joined)
         }
         Status::In => steps::silent(node, Outcome::Dropped),
-        Status::Del => steps::silent(steps::with_status(node, Status::Out), Outcome::Gone),
+        Status::Del => {
+            let gone = Node {
+                status: Status::Out,
+                ..node
+            };
+            steps::silent(gone, Outcome::Gone)
+        }
     }
 }
 
@@ -31,8 +40,20 @@ pub fn on_set_r_nak(node: Node) -> Step
     let status = node.status;
     match status {
         Status::Out => steps::silent(node, Outcome::Dropped),
-        Status::Ins => steps::silent(steps::with_status(node, Status::Out), Outcome::JoinDenied),
+        Status::Ins => {
+            let stays_out = Node {
+                status: Status::Out,
+                ..node
+            };
+            steps::silent(stays_out, Outcome::JoinDenied)
+        }
         Status::In => steps::silent(node, Outcome::Dropped),
-        Status::Del => steps::silent(steps::with_status(node, Status::In), Outcome::LeaveDenied),
+        Status::Del => {
+            let stays_in = Node {
+                status: Status::In,
+                ..node
+            };
+            steps::silent(stays_in, Outcome::LeaveDenied)
+        }
     }
 }

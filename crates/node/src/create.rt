@@ -1,7 +1,6 @@
 // Create: the first node of a ring.
 ghost use mathlib.Core.Path.{_≡_};
-ghost use Rattle.refusal.specs.Rules.{first, checked};
-ghost use Rattle.node.specs.Actions.{effect, createRules, created, createOf};
+ghost use Rattle.node.specs.Actions.{effect, createOf};
 use crate::Node;
 use crate::Outcome;
 use crate::Step;
@@ -10,39 +9,28 @@ use crate::steps;
 use parts::Link;
 use parts::Seq;
 use parts::Status;
-use refusal::Check;
 use refusal::Refusal;
-
-fn check(node: Node, me: u8) -> Check
-    ensures { λ r. ⌜ checked r ≡ first (createRules me node) ⌝ }
-{
-    let status = node.status;
-    refusal::rule(
-        !shape::is_well_formed(node, me),
-        Refusal::Malformed,
-        refusal::rule(!status.is_out(), Refusal::NotOut, Check::Clear),
-    )
-}
-
-fn created_as(node: Node, me: u8) -> Node
-    ensures { λ r. ⌜ r ≡ created me node ⌝ }
-{
-    let first = sequence::first();
-    let linked = steps::with_right(
-        steps::with_left(node, Link::To(me), first),
-        Link::To(me),
-        Seq::Is(first),
-    );
-    steps::with_status(linked, Status::In)
-}
 
 impl Node {
     pub fn create(self, me: u8) -> Step
         ensures { λ r. ⌜ effect r ≡ createOf me self ⌝ }
     {
-        if let Check::Refuse(refusal) = check(self, me) {
-            return steps::refuse(self, refusal);
+        let status = self.status;
+        if !shape::is_well_formed(self, me) {
+            return steps::refuse(self, Refusal::Malformed);
         }
-        steps::silent(created_as(self, me), Outcome::Created)
+        if !status.is_out() {
+            return steps::refuse(self, Refusal::NotOut);
+        }
+        let first = sequence::first();
+        let created = Node {
+            status: Status::In,
+            left: Link::To(me),
+            right: Link::To(me),
+            lseq: first,
+            rseq: Seq::Is(first),
+            ..self
+        };
+        steps::silent(created, Outcome::Created)
     }
 }

@@ -1,7 +1,6 @@
 // Receiving a message: any one by its kind, and one of each kind.
 ghost use mathlib.Core.Path.{_≡_};
-ghost use Rattle.refusal.specs.Rules.{first, checked};
-ghost use Rattle.node.specs.Actions.{effect, receiveRules, setR, setRAck, setRNak, setL, actOf, receiveOf};
+ghost use Rattle.node.specs.Actions.{effect, setR, setRAck, setRNak, setL, actOf, receiveOf};
 use crate::Node;
 use crate::Outcome;
 use crate::Step;
@@ -12,19 +11,8 @@ use crate::shape;
 use crate::steps;
 use parts::Kind;
 use parts::Message;
-use refusal::Check;
 use refusal::Refusal;
 use sequence::Number;
-
-fn check(node: Node, me: u8, message: Message) -> Check
-    ensures { λ r. ⌜ checked r ≡ first (receiveRules me node message) ⌝ }
-{
-    refusal::rule(
-        !(shape::is_well_formed(node, me) & shape::is_deliverable(message, me)),
-        Refusal::Malformed,
-        Check::Clear,
-    )
-}
 
 impl Node {
     // What a node does with a message, by its kind: the action alone, with no test of node or message.
@@ -52,8 +40,8 @@ impl Node {
         ensures { λ r. ⌜ effect r ≡ receiveOf me self message ⌝ }
     {
         let kind = message.kind;
-        if let Check::Refuse(refusal) = check(self, me, message) {
-            return steps::refuse(self, refusal);
+        if !(shape::is_well_formed(self, me) & shape::is_deliverable(message, me)) {
+            return steps::refuse(self, Refusal::Malformed);
         }
         self.act(me, message.sender, kind)
     }

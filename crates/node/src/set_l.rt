@@ -12,10 +12,12 @@ pub fn on_set_l(node: Node, left: u8, number: Number) -> Step
     ensures { λ r. ⌜ effect r ≡ onSetL node left number ⌝ }
 {
     if sequence::is_newer(number, node.lseq) {
-        return steps::silent(
-            steps::with_left(node, Link::To(left), number),
-            Outcome::LeftSet,
-        );
+        let relinked = Node {
+            left: Link::To(left),
+            lseq: number,
+            ..node
+        };
+        return steps::silent(relinked, Outcome::LeftSet);
     }
     steps::silent(node, Outcome::LeftOld)
 }

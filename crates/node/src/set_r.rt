@@ -1,6 +1,6 @@
 // SetR: a node grants or denies a request to change its right link.
 ghost use mathlib.Core.Path.{_≡_};
-ghost use Rattle.node.specs.Actions.{effect, grants, wouldGrant, granting, onSetR};
+ghost use Rattle.node.specs.Actions.{effect, grants, wouldGrant, onSetR};
 use crate::Node;
 use crate::Outcome;
 use crate::Step;
@@ -41,16 +41,6 @@ impl Node {
     }
 }
 
-fn grant(node: Node, notice: Message, ack: Message) -> Step
-    ensures { λ r. ⌜ effect r ≡ granting node notice ack ⌝ }
-{
-    Step {
-        node,
-        posts: Posts::Two(notice, ack),
-        verdict: Verdict::Done(Outcome::Granted),
-    }
-}
-
 pub fn on_set_r(node: Node, me: u8, sender: u8, new: u8, expected: u8, number: Number) -> Step
     ensures { λ r. ⌜ effect r ≡ onSetR me node sender new expected number ⌝ }
 {
@@ -65,27 +55,35 @@ pub fn on_set_r(node: Node, me: u8, sender: u8, new: u8, expected: u8, number: N
         return steps::posts_one(node, nak, Outcome::Denied);
     }
     let next = sequence::capped_next(rseq.number());
-    let relinked = steps::with_right(node, Link::To(new), Seq::Is(number));
+    let relinked = Node {
+        right: Link::To(new),
+        rseq: Seq::Is(number),
+        ..node
+    };
     let ack = Message {
         sender: me,
         to: sender,
         kind: Kind::SetRAck { number: next },
     };
-    if new == sender {
-        let to_right = Message {
+    let notice = if new == sender {
+        Message {
             sender: me,
             to: right.target(),
             kind: Kind::SetL {
                 left: sender,
                 number: next,
             },
-        };
-        return grant(relinked, to_right, ack);
-    }
-    let to_new = Message {
-        sender: me,
-        to: new,
-        kind: Kind::SetL { left: me, number },
+        }
+    } else {
+        Message {
+            sender: me,
+            to: new,
+            kind: Kind::SetL { left: me, number },
+        }
     };
-    grant(relinked, to_new, ack)
+    Step {
+        node: relinked,
+        posts: Posts::Two(notice, ack),
+        verdict: Verdict::Done(Outcome::Granted),
+    }
 }

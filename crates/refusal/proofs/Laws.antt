@@ -1,5 +1,5 @@
--- Laws of refusals: each has a number of its own, so a number names its refusal; and a check that says what a call's rules say
--- settles the call. Assumes nothing.
+-- Laws of refusals: each has a number of its own, so a number names its refusal; rules after other rules; what it shows that no rule refuses,
+-- and that a number is not given. Assumes nothing.
 use mathlib.Core.Path.{_≡_, refl, sym, ap, _∙_}
 use mathlib.Core.Bool.{Bool, true, false, cond}
 use mathlib.Core.List.{List, [], _∷_, _++_}
@@ -11,10 +11,8 @@ use lib.Dec.{ltb, eqb}
 use borrow.Author.Tests.{eqb-false}
 use Rattle.refusal.specs.declared.Refusal.{Refusal}
 use Rattle.refusal.specs.declared.Refusal.the-variants.{UnknownMark, CutShort, BadDigit, SerialTooLarge, Undeclared, Malformed, ScriptTooLong, NetworkFull, KeyTaken, NotAllOut, NotOut, NotBetween, NoticeWaiting, NotIn, SequenceSpent, QueueFull, NoMessage, StartNotInserted, OwnerNotFound}
-use Rattle.refusal.specs.declared.Check.{Check}
-use Rattle.refusal.specs.declared.Check.the-variants.{Clear, Refuse}
 use Rattle.refusal.specs.Code.{code, Reason, plain, reason}
-use Rattle.refusal.specs.Rules.{Rule, rule, first, checked, settled, ruled}
+use Rattle.refusal.specs.Rules.{Rule, rule, first, settled}
 
 -- the numbers from 1, and those from 20
 fromInput : List Refusal
@@ -53,14 +51,6 @@ code-injective r s e = sym (named-code r) ∙ ap named e ∙ named-code s
 
 pub reason-injective : (r s : Refusal) → reason r ≡ reason s → r ≡ s
 reason-injective r s e = code-injective r s cc
-
--- ---- a check that says what the rules say settles the call
-module _ {B : Type 0} (rules : List Rule) {k : Check} (says : checked k ≡ first rules) (refused : Reason → B) (accepted : B) where
-  pub on-refuse : {r : Refusal} → k ≡ Refuse r → refused (reason r) ≡ ruled rules refused accepted
-  on-refuse e = ap (λ o. settled o refused accepted) (ap checked (sym e) ∙ says)
-
-  pub on-clear : k ≡ Clear → accepted ≡ ruled rules refused accepted
-  on-clear e = ap (λ o. settled o refused accepted) (ap checked (sym e) ∙ says)
 
 -- ---- rules after other rules
 pub first-append : (rules rest : List Rule) → first (rules ++ rest) ≡ settled (first rules) some (first rest)

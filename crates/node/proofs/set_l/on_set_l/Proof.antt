@@ -3,7 +3,7 @@ use Rattle.node.proofs.set_l.on_set_l.Statement.{statement}
 use Rattle.node.proofs.set_l.on_set_l.Tie as tie
 
 returns : tie.Need-returns
-returns c = simp (← c .before .before .before .is-newer .ensures, c .before .before .if1 .taken, c .before .with-left .ensures, c .silent .ensures)
+returns c = simp (← c .before .before .is-newer .ensures, c .before .if1 .taken, c .silent .ensures)
 
 returns-2 : tie.Need-returns-2
 returns-2 c = simp (← c .before .before .is-newer .ensures, c .before .if1 .left, c .silent2 .ensures)
@@ -12,7 +12,6 @@ pub on-set-l-spec : {M : Type 1} → statement M
 on-set-l-spec =
     tie.close
     (tie.spec
-    (λ c κs. tt)
     (λ c κs. tt)
     (λ c κs. tt)
     returns
