@@ -6,7 +6,6 @@ ghost use Prim.Native.Nat.{_<_};
 ghost use Rattle.network.specs.Arrays.{wellFormed};
 ghost use Rattle.engine.specs.Outcomes.{reported, counted, applyOf, drainOf};
 ghost use Rattle.engine.specs.Computed.{nextDelivery, doneOn, Allowed};
-use crate::formed;
 use network::Network;
 use network::QUEUE_LIMIT;
 use protocol::Call;

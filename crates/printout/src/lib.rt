@@ -1,6 +1,5 @@
 // The lines of the printout, each written straight into the text. Where forty bytes find no room nothing is written: no line has more,
 // whatever its numbers, so nothing is asked of the caller. A word is put with the space before it and the line end after it, as one constant.
-ghost use mathlib.Core.Path.{_≡_};
 ghost use Prim.Native.Nat.{_+_, _≤_};
 ghost use lib.ListN.{length};
 ghost use Rattle.refusal.specs.Code.{reason};

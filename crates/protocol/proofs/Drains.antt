@@ -75,12 +75,6 @@ some-lowest s w some-wait = let (place, can) = steady s w .lively .progress some
 finds-lowest : (s : State) → T (wellFormed s) → 0 < length (s .messages) → (place : ℕ) × (lowest s ≡ some place) × (canDeliver s place ≡ true)
 finds-lowest s w some-wait = let (q, waits, can) = some-lowest s w some-wait in search-ends s (length (s .messages)) 0 q (omega arith) (omega arith) (is-true _ can)
 
-pub lowest-can : (s : State) → T (wellFormed s) → 0 < length (s .messages) → (place : ℕ) → lowest s ≡ some place → canDeliver s place ≡ true
-lowest-can s w some-wait place e =
-    let (q, found, can) = finds-lowest s w some-wait in
-    let same : q ≡ place = cc (sym found ∙ e) in
-    ap (canDeliver s) (sym same) ∙ can
-
 -- ---- the places of a drain
 pub places-none : (budget : ℕ) (s : State) → length (s .messages) ≡ 0 → places budget s ≡ []
 places-none zero s e = refl

@@ -12,7 +12,6 @@ use Rattle.refusal.specs.Rules.{Coded, done, no, Rule, _when_, ruled}
 use Rattle.serial.specs.Serial.{inRange}
 use Rattle.parts.specs.declared.Message.{Message}
 use Rattle.parts.specs.Tests.{isOut}
-use Rattle.node.specs.declared.Node.{Node}
 use Rattle.node.specs.declared.Peer.{Peer}
 use Rattle.node.specs.declared.Outcome.{Outcome}
 use Rattle.node.specs.Shape.{declaredOf, capacity}

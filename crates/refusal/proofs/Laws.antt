@@ -11,7 +11,7 @@ use lib.Dec.{ltb, eqb}
 use borrow.Author.Tests.{eqb-false}
 use Rattle.refusal.specs.declared.Refusal.{Refusal}
 use Rattle.refusal.specs.declared.Refusal.the-variants.{UnknownMark, CutShort, BadDigit, SerialTooLarge, Undeclared, Malformed, ScriptTooLong, NetworkFull, KeyTaken, NotAllOut, NotOut, NotBetween, NoticeWaiting, NotIn, SequenceSpent, QueueFull, NoMessage, StartNotInserted, OwnerNotFound}
-use Rattle.refusal.specs.Code.{code, Reason, plain, reason}
+use Rattle.refusal.specs.Code.{code, plain, reason}
 use Rattle.refusal.specs.Rules.{Rule, rule, first, settled}
 
 -- the numbers from 1, and those from 20

@@ -5,7 +5,7 @@
 --     store-by         the store: entry n of the context goes from P to Q. It is what `assigns` takes of a left side
 --     Shows P q τ b p v        what P says of memory is a share q of v at (b, p), with the way back to P
 --     elem-known, elem-shows   of one element of a field, at any share: it is of its type, and it can be read. The `Cut` is `look-at`, with `cut-records` over it
---     field-known, field-shows     the same of a field that is one machine value
+--     field-shows      a field that is one machine value can be read
 --     look-by          the read: entry n of the context stays as it is. It is what `load` takes
 -- Assumes `Given`.
 use mathlib.Core.Path.{_≡_, refl, sym, _∙_, ap, subst}
@@ -154,9 +154,6 @@ module _ {M : Type 1} (𝓤 : URA M) (H : Heap 𝓤) (A : Atoms 𝓤) where
         use1 W (some (λ (v : Val). ‵ (fat q (lone (F .mir)) b (o + d) v) ⊛ ‵ (F .own f (v ∷ [])))) (part-out 𝓤 H A W F one q f b (o + d)) $ pick ! (λ v. split ! $ move ! (1 ∷ []) $
         peeks ! F (Is F) (shows 𝓤 H A F) f (v ∷ []) (λ is. drop ! $ rewrite ! 0 (λ (u : Val). ‵ (fat q (lone (F .mir)) b (o + d) u)) (ap only (tells f _ is)) refl $
         by ! (k (subst (Is F f) (tells f _ is) is))))
-
-    pub field-known : ent 𝓤 All (guard 𝓤 (Is F f (val f ∷ [])) All)
-    field-known = away (guard 𝓤 (Is F f (val f ∷ [])) All) (λ is. via 𝓤 All (home is) (guardI 𝓤 (Is F f (val f ∷ [])) All is))
 
     pub field-shows : Shows All q (lone (F .mir)) b (o + d) (val f)
     field-shows = away (sep 𝓤 Cell (wand 𝓤 Cell All)) (λ is. monoR 𝓤 Cell (wandI 𝓤 Home Cell All (via 𝓤 _ (comm∗ 𝓤 Home Cell) (home is))))

@@ -43,10 +43,6 @@ fewest-decimal n (suc k) (some, fits, fewest) =
     fewest-below n k n (omega arith) fits (λ more. rw one-less at (fewest (omega arith)))
 
 -- ---- how many digits
-pub some-digit : (n : ℕ) → 1 ≤ length (decimal n)
-unfolding decimal
-some-digit n = by-test (λ (l : List ℕ). 1 ≤ length l) (ltb n 10) _ _ (λ _. omega arith) (λ _. simp length-append (omega arith))
-
 few-below : (enough w n : ℕ) → n < 10 ^ suc w → length (decimalBelow enough n) ≤ suc w
 few-below zero w n bound = omega arith
 few-below (suc enough) zero n bound = rw (one-digit enough n bound) (omega arith)

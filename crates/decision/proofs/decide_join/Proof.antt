@@ -1,7 +1,7 @@
 -- `decision::decide_join` meets its contract: the step is the node's, and the rules go by it. Assumes nothing.
 use borrow.Author.Needs.{needs}
 use mathlib.Core.Path.{ap, _∙_}
-use mathlib.Core.Bool.{not, _&&_, cond}
+use mathlib.Core.Bool.{_&&_, cond}
 use mathlib.Core.Option.{some}
 use lib.Dec.{ltb}
 use Rattle.refusal.specs.Code.{plain}

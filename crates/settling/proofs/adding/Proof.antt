@@ -1,6 +1,5 @@
 -- `settling::adding` meets its contract: the node is as declared. Assumes nothing.
 use borrow.Author.Needs.{needs}
-use mathlib.Core.Path.{ap}
 use Rattle.refusal.specs.Rules.{done}
 use Rattle.protocol.specs.declared.Reply.the-variants.{Declared}
 use Rattle.access.specs.Changes.{adds}

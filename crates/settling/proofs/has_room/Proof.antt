@@ -1,6 +1,5 @@
 -- `settling::has_room` meets its contract: a step posts two messages at most, so that the sum fits. Assumes nothing.
 use borrow.Author.Needs.{needs}
-use native.Mathlib.Omega.{arith}
 use Rattle.settling.proofs.has_room.Statement.{statement}
 use Rattle.settling.proofs.has_room.Tie as tie
 
