@@ -10,8 +10,8 @@ use task::Task;
 pub fn admit_call(network: Network, call: Call) -> Task
     ensures { λ r. ⌜ r ≡ admitted network (task.Call call) ⌝ }
 {
-    let is_formed = network.is_well_formed();
-    if is_formed {
+    let sound = network.is_well_formed();
+    if sound {
         Task::Call(call)
     } else {
         Task::Refuse(Refusal::Malformed)

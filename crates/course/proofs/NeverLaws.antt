@@ -7,9 +7,9 @@ use mathlib.Core.Option.{Option, none, some}
 use Prim.Native.Nat.{ℕ}
 use native.Mathlib.Omega.{arith}
 use lib.Dec.{T, eqb}
-use Rattle.truth.proofs.TestLaws.{is-true, not-both}
+use Rattle.predicates.proofs.TestLaws.{is-true, not-both}
 use Rattle.refusal.specs.Code.{Reason, plain}
-use Rattle.refusal.specs.Rules.{no, _when_, first, settled}
+use Rattle.refusal.specs.Rules.{no, _when_, first, unlessRefused}
 use Rattle.refusal.proofs.Laws.{Never, end, other, fails, never}
 use Rattle.serial.specs.declared.Serial.{Serial}
 use Rattle.serial.specs.declared.Serial.the-variants.{Value, BadDigit, TooLarge}
@@ -20,14 +20,14 @@ use Rattle.protocol.specs.declared.Call.the-variants.{Order}
 use Rattle.protocol.specs.State.{State, wellFormed}
 use Rattle.protocol.specs.Calls.{refused}
 use Rattle.protocol.specs.History.{history}
-use Rattle.protocol.proofs.Facts.{formed}
+use Rattle.protocol.proofs.Facts.{well-formed}
 use Rattle.protocol.proofs.Refusals.{six, calls-never-31, owner-never-six}
 use Rattle.protocol.proofs.Drains.{drain-is}
 use Rattle.protocol.proofs.Owners.{always-found}
 use Rattle.protocol.proofs.Theorem.{ring}
 use Rattle.script.specs.declared.Record.{Record}
 use Rattle.script.specs.declared.Record.the-variants.{Call, Declare, Owner, Drain}
-use Rattle.course.specs.Performance.{unread, fieldRules, valueOf, performing, performOf}
+use Rattle.course.specs.Execution.{unread, fieldRules, valueOf, executing, executeOf}
 
 -- ---- the fields give 3, 4 and 5
 serial-gives : {n : ℕ} → eqb 3 n ≡ false → eqb 4 n ≡ false → (serial : Serial) → Never n (unread (coded serial))
@@ -42,32 +42,32 @@ fields-give three four five s (Owner start serial) = other five (λ _. serial-gi
 fields-give three four five s (Drain budget) = end
 
 -- ---- so a record of a well-formed network says another number only where what it does says it
-said-by-doing : (s : State) → T (wellFormed s) → (asked : Record) {n : ℕ} → Never n (fieldRules s asked) → ¬ (performing s asked .said ≡ no (plain n)) → ¬ (performOf s asked .said ≡ no (plain n))
-unfolding performOf
+said-by-doing : (s : State) → T (wellFormed s) → (asked : Record) {n : ℕ} → Never n (fieldRules s asked) → ¬ (executing s asked .said ≡ no (plain n)) → ¬ (executeOf s asked .said ≡ no (plain n))
+unfolding executeOf
 said-by-doing s w asked {n} fields doing e = go (first ((6 when not (wellFormed s)) ∷ fieldRules s asked)) refl e
   where
     rules : Never n ((6 when not (wellFormed s)) ∷ fieldRules s asked)
     rules = fails (ap not (is-true (wellFormed s) w)) fields
 
-    go : (o : Option Reason) → first ((6 when not (wellFormed s)) ∷ fieldRules s asked) ≡ o → ¬ (settled o (refused s) (performing s asked) .said ≡ no (plain n))
+    go : (o : Option Reason) → first ((6 when not (wellFormed s)) ∷ fieldRules s asked) ≡ o → ¬ (unlessRefused o (refused s) (executing s asked) .said ≡ no (plain n))
     go none clear f = doing f
     go (some r) refuses f = let same : r ≡ plain n = cc in never rules (refuses ∙ ap some same)
 
 -- a drain of a well-formed network is not refused
-drain-done : (s : State) → T (wellFormed s) → (budget : ℕ) (r : Reason) → ¬ (performing s (Drain budget) .said ≡ no r)
+drain-done : (s : State) → T (wellFormed s) → (budget : ℕ) (r : Reason) → ¬ (executing s (Drain budget) .said ≡ no r)
 drain-done s w budget r e = let f = rw (drain-is s budget w) at e in let z : _≡_ {A = ℕ} 0 1 = cc in omega arith
 
 -- ---- 6
-call-not-six : (s : State) → T (wellFormed s) → (call : AnyCall) → ¬ (performing s (Call call) .said ≡ no (plain 6))
+call-not-six : (s : State) → T (wellFormed s) → (call : AnyCall) → ¬ (executing s (Call call) .said ≡ no (plain 6))
 call-not-six s w call e = not-both (is-true _ w) (six s call .0 e)
 
-doing-not-six : (s : State) → T (wellFormed s) → (asked : Record) → ¬ (performing s asked .said ≡ no (plain 6))
+doing-not-six : (s : State) → T (wellFormed s) → (asked : Record) → ¬ (executing s asked .said ≡ no (plain 6))
 doing-not-six s w (Call call) = call-not-six s w call
 doing-not-six s w (Declare serial) = call-not-six s w (Order (DeclareOrder (valueOf (coded serial))))
-doing-not-six s w (Owner start serial) = owner-never-six s (formed s (is-true _ w)) start (valueOf (coded serial))
+doing-not-six s w (Owner start serial) = owner-never-six s (well-formed s (is-true _ w)) start (valueOf (coded serial))
 doing-not-six s w (Drain budget) = drain-done s w budget (plain 6)
 
-pub never-six : (s : State) → T (wellFormed s) → (asked : Record) → ¬ (performOf s asked .said ≡ no (plain 6))
+pub never-six : (s : State) → T (wellFormed s) → (asked : Record) → ¬ (executeOf s asked .said ≡ no (plain 6))
 never-six s w asked = said-by-doing s w asked (fields-give refl refl refl s asked) (doing-not-six s w asked)
 
 -- ---- 31
@@ -75,14 +75,14 @@ module _ (calls : List AnyCall) where
   abbrev here : State
   here = history calls .state
 
-  formed-here : T (wellFormed here)
-  formed-here = ring calls .well-formed
+  well-formed-here : T (wellFormed here)
+  well-formed-here = ring calls .well-formed
 
-  doing-not-31 : (asked : Record) → ¬ (performing here asked .said ≡ no (plain 31))
+  doing-not-31 : (asked : Record) → ¬ (executing here asked .said ≡ no (plain 31))
   doing-not-31 (Call call) = calls-never-31 here call
   doing-not-31 (Declare serial) = calls-never-31 here (Order (DeclareOrder (valueOf (coded serial))))
   doing-not-31 (Owner start serial) = always-found calls start (valueOf (coded serial))
-  doing-not-31 (Drain budget) = drain-done here formed-here budget (plain 31)
+  doing-not-31 (Drain budget) = drain-done here well-formed-here budget (plain 31)
 
-  pub never-31 : (asked : Record) → ¬ (performOf here asked .said ≡ no (plain 31))
-  never-31 asked = said-by-doing here formed-here asked (fields-give refl refl refl here asked) (doing-not-31 asked)
+  pub never-31 : (asked : Record) → ¬ (executeOf here asked .said ≡ no (plain 31))
+  never-31 asked = said-by-doing here well-formed-here asked (fields-give refl refl refl here asked) (doing-not-31 asked)

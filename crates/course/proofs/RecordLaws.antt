@@ -9,10 +9,10 @@ use Prim.Native.Nat.{ℕ, _+_, _≤_}
 use native.Mathlib.Omega.{arith}
 use lib.ListN.{length}
 use lib.Dec.{T}
-use Rattle.truth.specs.Tests.{count}
-use Rattle.truth.proofs.TestLaws.{decided, is-true}
+use Rattle.predicates.specs.Tests.{count}
+use Rattle.predicates.proofs.TestLaws.{decided, is-true}
 use Rattle.refusal.specs.Code.{Reason}
-use Rattle.refusal.specs.Rules.{no, _when_, first, settled}
+use Rattle.refusal.specs.Rules.{no, _when_, first, unlessRefused}
 use Rattle.serial.specs.Serial.{coded}
 use Rattle.parts.specs.declared.Message.{Message}
 use Rattle.parts.specs.Tests.{isRequest}
@@ -21,13 +21,13 @@ use Rattle.protocol.specs.declared.Call.the-variants.{Order, Deliver}
 use Rattle.protocol.specs.State.{State, wellFormed}
 use Rattle.protocol.specs.Calls.{refused, applyOf}
 use Rattle.protocol.specs.Drain.{places, deliverAll, drainOf}
-use Rattle.protocol.proofs.Facts.{formed}
+use Rattle.protocol.proofs.Facts.{well-formed}
 use Rattle.protocol.proofs.Lively.{steady}
 use Rattle.protocol.proofs.Drains.{drain-is, drains}
 use Rattle.protocol.proofs.Posted.{few-posts, few-posts-of-all, refused-same as call-refused-same, drain-refused-same}
 use Rattle.script.specs.declared.Record.{Record}
 use Rattle.script.specs.declared.Record.the-variants.{Call, Declare, Owner, Drain}
-use Rattle.course.specs.Performance.{fieldRules, valueOf, performing, performOf}
+use Rattle.course.specs.Execution.{fieldRules, valueOf, executing, executeOf}
 
 -- ---- a record leaves the network well formed
 deliveries-kept : (s : State) → T (wellFormed s) → (places : List ℕ) → T (wellFormed (deliverAll s places))
@@ -35,18 +35,18 @@ deliveries-kept s w [] = w
 deliveries-kept s w (place ∷ places) = deliveries-kept (applyOf s (Deliver place) .state) (steady s w .kept (Deliver place)) places
 
 module _ (s : State) (w : T (wellFormed s)) where
-  performing-kept : (asked : Record) → T (wellFormed (performing s asked .state))
-  performing-kept (Call call) = steady s w .kept call
-  performing-kept (Declare serial) = steady s w .kept (Order (DeclareOrder (valueOf (coded serial))))
-  performing-kept (Owner start serial) = w
-  performing-kept (Drain budget) = rw (drain-is s budget w) (deliveries-kept s w (places budget s))
+  executing-kept : (asked : Record) → T (wellFormed (executing s asked .state))
+  executing-kept (Call call) = steady s w .kept call
+  executing-kept (Declare serial) = steady s w .kept (Order (DeclareOrder (valueOf (coded serial))))
+  executing-kept (Owner start serial) = w
+  executing-kept (Drain budget) = rw (drain-is s budget w) (deliveries-kept s w (places budget s))
 
-  pub record-kept : (asked : Record) → T (wellFormed (performOf s asked .state))
-  unfolding performOf
+  pub record-kept : (asked : Record) → T (wellFormed (executeOf s asked .state))
+  unfolding executeOf
   record-kept asked = rw (is-true (wellFormed s) w) (go (first (fieldRules s asked)))
     where
-      go : (o : Option Reason) → T (wellFormed (settled o (refused s) (performing s asked) .state))
-      go none = performing-kept asked
+      go : (o : Option Reason) → T (wellFormed (unlessRefused o (refused s) (executing s asked) .state))
+      go none = executing-kept asked
       go (some r) = w
 
 -- ---- how many messages a record posts
@@ -65,34 +65,34 @@ module _ (s : State) (w : T (wellFormed s)) where
         drains s w budget .none-refused,
         steady s w .lively .bound (places budget s),
         counted-apart (s .messages),
-        formed s (is-true _ w) .few-messages,
+        well-formed s (is-true _ w) .few-messages,
       ))
 
-  performing-posts : (asked : Record) → length (performing s asked .posts) ≤ 384
-  performing-posts (Call call) = omega (arith, few-posts s call)
-  performing-posts (Declare serial) = omega (arith, few-posts s (Order (DeclareOrder (valueOf (coded serial)))))
-  performing-posts (Owner start serial) = omega arith
-  performing-posts (Drain budget) = drain-posts budget
+  executing-posts : (asked : Record) → length (executing s asked .posts) ≤ 384
+  executing-posts (Call call) = omega (arith, few-posts s call)
+  executing-posts (Declare serial) = omega (arith, few-posts s (Order (DeclareOrder (valueOf (coded serial)))))
+  executing-posts (Owner start serial) = omega arith
+  executing-posts (Drain budget) = drain-posts budget
 
-  pub record-posts : (asked : Record) → length (performOf s asked .posts) ≤ 384
-  unfolding performOf
+  pub record-posts : (asked : Record) → length (executeOf s asked .posts) ≤ 384
+  unfolding executeOf
   record-posts asked = rw (is-true (wellFormed s) w) (go (first (fieldRules s asked)))
     where
-      go : (o : Option Reason) → length (settled o (refused s) (performing s asked) .posts) ≤ 384
-      go none = performing-posts asked
+      go : (o : Option Reason) → length (unlessRefused o (refused s) (executing s asked) .posts) ≤ 384
+      go none = executing-posts asked
       go (some r) = omega arith
 
 -- ---- a refused record leaves the network as it was, and posts nothing
-performing-refused : (s : State) (asked : Record) (r : Reason) → performing s asked .said ≡ no r → performing s asked ≡ refused s r
-performing-refused s (Call call) r e = call-refused-same s call r e
-performing-refused s (Declare serial) r e = call-refused-same s (Order (DeclareOrder (valueOf (coded serial)))) r e
-performing-refused s (Owner start serial) r e = λ i. record { state = s; posts = []; said = e i }
-performing-refused s (Drain budget) r e = drain-refused-same s budget r e
+executing-refused : (s : State) (asked : Record) (r : Reason) → executing s asked .said ≡ no r → executing s asked ≡ refused s r
+executing-refused s (Call call) r e = call-refused-same s call r e
+executing-refused s (Declare serial) r e = call-refused-same s (Order (DeclareOrder (valueOf (coded serial)))) r e
+executing-refused s (Owner start serial) r e = λ i. record { state = s; posts = []; said = e i }
+executing-refused s (Drain budget) r e = drain-refused-same s budget r e
 
-pub lists-refused-same : (s : State) (asked : Record) (r : Reason) → performOf s asked .said ≡ no r → performOf s asked ≡ refused s r
-unfolding performOf
+pub lists-refused-same : (s : State) (asked : Record) (r : Reason) → executeOf s asked .said ≡ no r → executeOf s asked ≡ refused s r
+unfolding executeOf
 lists-refused-same s asked r e = go (first ((6 when not (wellFormed s)) ∷ fieldRules s asked)) e
   where
-    go : (o : Option Reason) → settled o (refused s) (performing s asked) .said ≡ no r → settled o (refused s) (performing s asked) ≡ refused s r
-    go none f = performing-refused s asked r f
+    go : (o : Option Reason) → unlessRefused o (refused s) (executing s asked) .said ≡ no r → unlessRefused o (refused s) (executing s asked) ≡ refused s r
+    go none f = executing-refused s asked r f
     go (some n) f = let same : n ≡ r = cc in ap (refused s) same

@@ -9,9 +9,9 @@ use Prim.Native.Nat.{ℕ, zero, suc, _+_}
 use native.Mathlib.Omega.{arith}
 use lib.ListN.{length, length-append}
 use lib.Dec.{T}
-use Rattle.truth.proofs.TestLaws.{_∈_, is-true}
+use Rattle.predicates.proofs.TestLaws.{_∈_, is-true}
 use Rattle.refusal.specs.Code.{Reason, plain}
-use Rattle.refusal.specs.Rules.{Coded, no, first, settled}
+use Rattle.refusal.specs.Rules.{Coded, no, first, unlessRefused}
 use Rattle.serial.specs.declared.Serial.the-variants.{Value, BadDigit, TooLarge}
 use Rattle.protocol.specs.declared.Order.the-variants.{Declare}
 use Rattle.protocol.specs.declared.Call.{Call}
@@ -30,7 +30,7 @@ use Rattle.script.specs.declared.Record.the-variants.{Call as CallRecord, Decla
 use Rattle.script.specs.Script.{Read, end, stop, next, readAt}
 use Rattle.script.proofs.Laws.{stops-by}
 use Rattle.printout.specs.Lines.{heading, lineOf}
-use Rattle.course.specs.Performance.{fieldRules, performing, performOf}
+use Rattle.course.specs.Execution.{fieldRules, executing, executeOf}
 use Rattle.course.proofs.NeverLaws.{never-six, never-31}
 use Rattle.course.specs.Run.{Progress, advanced, after}
 use Rattle.course.specs.Claim.{callsOf, callsRead, scriptCalls, answerTo, answersOf, lines, ScriptClaim}
@@ -57,18 +57,18 @@ module _ (calls : List Call) where
   one-call : (call : Call) → Follows calls (call ∷ []) (applyOf here call)
   one-call call = record { state = sym (state-append calls (call ∷ [])); posts = omega arith }
 
-  formed : T (wellFormed here)
-  formed = ring calls .well-formed
+  well-formed : T (wellFormed here)
+  well-formed = ring calls .well-formed
 
   drained-so : (budget : ℕ) → Follows calls (map Deliver (places budget here)) (drainOf here budget)
   drained-so budget = let d = drain-is-calls calls budget in record { state = d .state; posts = d .posts }
 
-  done-so : (asked : Record) → first (fieldRules here asked) ≡ none → Follows calls (callsOf here asked) (performing here asked)
+  done-so : (asked : Record) → first (fieldRules here asked) ≡ none → Follows calls (callsOf here asked) (executing here asked)
   done-so (CallRecord call) clear = one-call call
   done-so (DeclareRecord (Value key)) clear = one-call (Order (Declare key))
   done-so (DeclareRecord BadDigit) clear = let z : _≡_ {A = ℕ} 0 1 = cc in absurd (omega arith)
   done-so (DeclareRecord TooLarge) clear = let z : _≡_ {A = ℕ} 0 1 = cc in absurd (omega arith)
-  done-so (OwnerRecord from serial) clear = nothing-more (performing here (OwnerRecord from serial)) refl refl
+  done-so (OwnerRecord from serial) clear = nothing-more (executing here (OwnerRecord from serial)) refl refl
   done-so (DrainRecord budget) clear = drained-so budget
 
   refused-so : (asked : Record) (r : Reason) → first (fieldRules here asked) ≡ some r → Follows calls (callsOf here asked) (refused here r)
@@ -79,11 +79,11 @@ module _ (calls : List Call) where
   refused-so (OwnerRecord from serial) r e = nothing-more (refused here r) refl refl
   refused-so (DrainRecord budget) r e = let z : _≡_ {A = ℕ} 0 1 = cc in absurd (omega arith)
 
-  follows : (asked : Record) → Follows calls (callsOf here asked) (performOf here asked)
-  unfolding performOf
-  follows asked = rw (is-true (wellFormed here) formed) (go (first (fieldRules here asked)) refl)
+  follows : (asked : Record) → Follows calls (callsOf here asked) (executeOf here asked)
+  unfolding executeOf
+  follows asked = rw (is-true (wellFormed here) well-formed) (go (first (fieldRules here asked)) refl)
     where
-      go : (o : Option Reason) → first (fieldRules here asked) ≡ o → Follows calls (callsOf here asked) (settled o (refused here) (performing here asked))
+      go : (o : Option Reason) → first (fieldRules here asked) ≡ o → Follows calls (callsOf here asked) (unlessRefused o (refused here) (executing here asked))
       go none clear = done-so asked clear
       go (some r) refuses = refused-so asked r refuses
 
@@ -125,16 +125,16 @@ one-line said last ordinal text counts reads =
 one-answer : (script : List ℕ) (said : List (Coded Reply)) (p : Progress) → Told said p → (r : Read) → Told (said ++ answerTo (p .state) r) (advanced script p r)
 one-answer script said p t end = rw (append-nil said) t
 one-answer script said p (counts, reads) (stop r) = one-line said (no r) (p .ordinal) (p .text) counts reads
-one-answer script said p (counts, reads) (next asked c) = one-line said (performOf (p .state) asked .said) (p .ordinal) (p .text) counts reads
+one-answer script said p (counts, reads) (next asked c) = one-line said (executeOf (p .state) asked .said) (p .ordinal) (p .text) counts reads
 
 told : (script : List ℕ) (k : ℕ) → Told (answersOf script k) (after script k)
 told script zero = (refl, sym (append-nil heading))
 told script (suc k) = one-answer script (answersOf script k) (after script k) (told script k) (readAt script (after script k .at))
 
 -- ---- numbers that no line says: the reading stops by 1 and 2, and no record says them
-not-said : (n : ℕ) → ¬ (plain 1 ≡ plain n) → ¬ (plain 2 ≡ plain n) → (s : State) → ((asked : Record) → ¬ (performOf s asked .said ≡ no (plain n)))
+not-said : (n : ℕ) → ¬ (plain 1 ≡ plain n) → ¬ (plain 2 ≡ plain n) → (s : State) → ((asked : Record) → ¬ (executeOf s asked .said ≡ no (plain n)))
     → (script : List ℕ) (at : ℕ) → ¬ (no (plain n) ∈ answerTo s (readAt script at))
-not-said n one two s performed script at = go (readAt script at) refl
+not-said n one two s executed script at = go (readAt script at) refl
   where
     go : (r : Read) → readAt script at ≡ r → ¬ (no (plain n) ∈ answerTo s r)
     go end read i = in-none i
@@ -142,13 +142,13 @@ not-said n one two s performed script at = go (readAt script at) refl
         let e = in-one i in
         let same : r ≡ plain n = cc in
         ⊎-elim (λ (f : r ≡ plain 1). one (sym f ∙ same)) (λ (f : r ≡ plain 2). two (sym f ∙ same)) (stops-by script at r read)
-    go (next asked c) read i = performed asked (sym (in-one i))
+    go (next asked c) read i = executed asked (sym (in-one i))
 
-none-says : (n : ℕ) → ¬ (plain 1 ≡ plain n) → ¬ (plain 2 ≡ plain n) → (script : List ℕ) → ((k : ℕ) (asked : Record) → ¬ (performOf (after script k .state) asked .said ≡ no (plain n)))
+none-says : (n : ℕ) → ¬ (plain 1 ≡ plain n) → ¬ (plain 2 ≡ plain n) → (script : List ℕ) → ((k : ℕ) (asked : Record) → ¬ (executeOf (after script k .state) asked .said ≡ no (plain n)))
     → (k : ℕ) → ¬ (no (plain n) ∈ answersOf script k)
-none-says n one two script performed zero i = in-none i
-none-says n one two script performed (suc k) i =
-    ⊎-elim (none-says n one two script performed k) (not-said n one two (after script k .state) (performed k) script (after script k .at)) (in-part (answersOf script k) i)
+none-says n one two script executed zero i = in-none i
+none-says n one two script executed (suc k) i =
+    ⊎-elim (none-says n one two script executed k) (not-said n one two (after script k .state) (executed k) script (after script k .at)) (in-part (answersOf script k) i)
 
 pub script-is-calls : ScriptClaim
 script-is-calls script k =

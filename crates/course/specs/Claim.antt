@@ -19,7 +19,7 @@ use Rattle.script.specs.declared.Record.{Record}
 use Rattle.script.specs.declared.Record.the-variants.{Call as CallRecord, Declare as DeclareRecord, Owner as OwnerRecord, Drain as DrainRecord}
 use Rattle.script.specs.Script.{Read, end, stop, next, readAt}
 use Rattle.printout.specs.Lines.{heading, lineOf}
-use Rattle.course.specs.Performance.{performOf}
+use Rattle.course.specs.Execution.{executeOf}
 use Rattle.course.specs.Run.{after}
 
 -- the calls of a record: none where its serial is refused, and none for a question; "A run-down counts as the deliveries it makes."
@@ -45,7 +45,7 @@ scriptCalls script (suc k) = scriptCalls script k ++ callsRead (after script k .
 abbrev pub answerTo : State → Read → List (Coded Reply)
 answerTo s end = []
 answerTo s (stop r) = no r ∷ []
-answerTo s (next asked c) = performOf s asked .said ∷ []
+answerTo s (next asked c) = executeOf s asked .said ∷ []
 
 -- the answers to the first k records of a script
 abbrev pub answersOf : List ℕ → ℕ → List (Coded Reply)

@@ -1,3 +1,3 @@
-pub mod Performance
+pub mod Execution
 pub mod Run
 pub mod Claim

@@ -9,7 +9,7 @@ use Rattle.refusal.specs.Rules.{no}
 use Rattle.protocol.specs.State.{State, empty}
 use Rattle.script.specs.Script.{Read, end, stop, next, readAt}
 use Rattle.printout.specs.Lines.{heading, lineOf, lastLine}
-use Rattle.course.specs.Performance.{performOf}
+use Rattle.course.specs.Execution.{executeOf}
 
 -- how far a run has come: the network, the cursor, the ordinal of the last record, all messages posted, and the printout so far
 pub record Progress : Type 0 where
@@ -27,11 +27,11 @@ abbrev pub advanced : List ℕ → Progress → Read → Progress
 advanced script p end = p
 advanced script p (stop r) = record { state = p .state; at = length script; ordinal = p .ordinal + 1; posted = p .posted; text = p .text ++ lineOf (p .ordinal + 1) (no r) }
 advanced script p (next asked after) = record {
-  state = performOf (p .state) asked .state;
+  state = executeOf (p .state) asked .state;
   at = after;
   ordinal = p .ordinal + 1;
-  posted = p .posted + length (performOf (p .state) asked .posts);
-  text = p .text ++ lineOf (p .ordinal + 1) (performOf (p .state) asked .said);
+  posted = p .posted + length (executeOf (p .state) asked .posts);
+  text = p .text ++ lineOf (p .ordinal + 1) (executeOf (p .state) asked .said);
 }
 
 abbrev pub stepOf : List ℕ → Progress → Progress

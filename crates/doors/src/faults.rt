@@ -76,7 +76,7 @@ pub(crate) fn fault(network: Network, which: u8) -> Network {
             n
         }
         // places past the counts that are not blank
-        2 => with_node(n, 2, settling::declared(3_000)),
+        2 => with_node(n, 2, decision::declared(3_000)),
         3 => with_message(n, 63, 0, Kind::SetRAck { number: 0 }),
         // a key that is taken, and one out of range
         4 => with_node(n, 0, linked(2_000, Link::To(0), Link::To(1), Seq::Is(0))),

@@ -101,13 +101,13 @@ fn by_fault(sound: Network) {
 
 // Of the networks drawn, how many are well formed, and how many others every door refuses.
 struct Count {
-    formed: u32,
+    well_formed: u32,
     right: u32,
 }
 
 fn by_chance() -> Count {
     let mut seed: u32 = 2_463_534_242;
-    let mut formed: u32 = 0;
+    let mut well_formed: u32 = 0;
     let mut right: u32 = 0;
     let mut i: u32 = 0;
     while i < DRAWN {
@@ -115,11 +115,11 @@ fn by_chance() -> Count {
         let network = drawn.network;
         seed = drawn.seed;
         let sound = network.is_well_formed();
-        formed += few(one_if(sound));
+        well_formed += few(one_if(sound));
         right += few(one_if(!sound & (refused(network) == DOORS)));
         i += 1;
     }
-    Count { formed, right }
+    Count { well_formed, right }
 }
 
 fn main() {
@@ -131,6 +131,6 @@ fn main() {
     by_fault(sound);
     let count = by_chance();
     print(b"networks made by chance: ", DRAWN);
-    print(b"of them well formed: ", count.formed);
+    print(b"of them well formed: ", count.well_formed);
     print(b"refused 6 by every door, and handed back: ", count.right);
 }

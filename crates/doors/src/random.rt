@@ -97,7 +97,7 @@ fn message(seed: u32) -> Message {
 
 // The nodes are made of a seed and those after it; the messages of others that begin elsewhere.
 fn nodes(seed: u32) -> [Node; 32] {
-    let mut nodes = [settling::declared(0); 32];
+    let mut nodes = [decision::declared(0); 32];
     let mut s = seed;
     let mut i: usize = 0;
     while i < 32 {

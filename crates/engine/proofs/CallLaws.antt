@@ -12,11 +12,11 @@ use lib.ListN.{length, getD, take}
 use lib.Seq.{getD-take}
 use lib.Dec.{ltb, eqb}
 use borrow.Author.Tests.{leb-true, ltb-true, le-leb, lt-ltb, le-ltb, not-false}
-use Rattle.truth.specs.Tests.{everyBelow, any}
-use Rattle.truth.proofs.Laws.{true-is-not-false, both, and-false}
-use Rattle.truth.proofs.TestLaws.{decided, is-true, below-agree}
+use Rattle.predicates.specs.Tests.{everyBelow, any}
+use Rattle.predicates.proofs.Laws.{true-is-not-false, both, and-false}
+use Rattle.predicates.proofs.TestLaws.{decided, is-true, below-agree}
 use Rattle.refusal.specs.Code.{Reason, plain}
-use Rattle.refusal.specs.Rules.{Coded, done, no, Rule, _when_, first, settled}
+use Rattle.refusal.specs.Rules.{Coded, done, no, Rule, _when_, first, unlessRefused}
 use Rattle.refusal.proofs.Laws.{cleared}
 use Rattle.serial.specs.Serial.{inRange}
 use Rattle.node.specs.declared.Node.{Node}
@@ -24,7 +24,7 @@ use Rattle.parts.specs.declared.Message.{Message}
 use Rattle.node.specs.Shape.{declaredOf, capacity, peerFits, wellFormed as nodeIsSound}
 use Rattle.parts.specs.Tests.{isOut}
 use Rattle.node.proofs.ActionLaws.{join-tested, leave-tested}
-use Rattle.node.specs.Actions.{Effect, createOf, joinFormed, joinOf, leaveFormed, leaveOf, actOf, wouldGrant}
+use Rattle.node.specs.Actions.{Effect, createOf, joinUnchecked, joinOf, leaveUnchecked, leaveOf, actOf, wouldGrant}
 use Rattle.protocol.specs.declared.Call.{Call}
 use Rattle.protocol.specs.declared.Order.the-variants.{Declare, Create, Join, Leave}
 use Rattle.protocol.specs.declared.Call.the-variants.{Order, Deliver}
@@ -32,14 +32,14 @@ use Rattle.protocol.specs.declared.Reply.the-variants.{Declared}
 use Rattle.protocol.specs.State.{queueLimit, declared, nodeAt, statusAt, keyAt, isNoticeTo, noticeWaits, wellFormed as listsAreWellFormed}
 use Rattle.protocol.specs.Calls.{stepped, commit, keyIsTaken, declaring, allOut, createRules, peerAt, joinRules, leaveRules, messageAt, without, isGrantable, deliverRules, receiving, rulesOf, effectOf, applyOf as applyToLists}
 use Rattle.protocol.specs.Answer.{accepted}
-use Rattle.protocol.proofs.Facts.{WellFormed as ListsWellFormed, formed as lists-formed}
+use Rattle.protocol.proofs.Facts.{WellFormed as ListsWellFormed, well-formed as lists-well-formed}
 use Rattle.protocol.proofs.Waiting.{taken}
 use Rattle.protocol.proofs.Cases.{tested-below, declared-addressee, accepted-case, received as received-acts}
 use Rattle.protocol.proofs.Refusals.{accepted-said, node-sound, peer-sound}
 use Rattle.network.specs.declared.Network.{Network}
 use Rattle.network.specs.Arrays.{vacantNode, vacantMessage, live, wellFormed, held}
 use Rattle.network.proofs.Lengths.{Lengths}
-use Rattle.network.proofs.ArrayLaws.{formed, held-live}
+use Rattle.network.proofs.ArrayLaws.{well-formed, held-live}
 use Rattle.network.proofs.LiveLaws.{nodes-length, messages-length, node-live}
 use Rattle.access.specs.declared.Arrival.{Arrival}
 use Rattle.access.specs.declared.Change.{Change}
@@ -49,10 +49,10 @@ use Rattle.access.proofs.Shift.{length-without}
 use Rattle.access.proofs.Stores.{added-held, closed-held, stepped-held}
 use Rattle.searches.specs.declared.Found.{Found}
 use Rattle.searches.specs.Searches.{least, keyIsTaken as keyIsTakenIn, someStands, noticeWaits as noticeWaitsIn}
-use Rattle.settling.specs.declared.Decision.{Decision}
+use Rattle.decision.specs.declared.Decision.{Decision}
 use Rattle.report.specs.declared.Report.{Report}
-use Rattle.settling.specs.Settling.{Decided, decided as decidedBy, spotsOf, turnedAway, adding, stepping, delivering, afterStep, roomTests}
-use Rattle.decision.specs.Decisions.{unless, declareTests, createTests, joinStep, leaveTests, receiveStep, deliverTests}
+use Rattle.decision.specs.Decided.{Decided, decided as decidedBy, spotsOf, turnedAway, adding, stepping, delivering, afterStep, roomTests}
+use Rattle.rules.specs.Decisions.{unless, declareTests, createTests, joinStep, leaveTests, receiveStep, deliverTests}
 use Rattle.ruling.specs.Rulings.{decisionOn}
 use Rattle.engine.specs.Outcomes.{counted, reported, inArrays, applyOf}
 use Rattle.engine.specs.Computed.{outcome}
@@ -86,16 +86,16 @@ after-cleared (no r) rest e = let z : _≡_ {A = ℕ} 0 1 = cc in absurd (omega 
 -- ---- a well-formed network
 module _ (n : Network) (l : Lengths n) (h : wellFormed n ≡ true) where
   lists : ListsWellFormed (live n)
-  lists = lists-formed (live n) (formed n h .lists)
+  lists = lists-well-formed (live n) (well-formed n h .lists)
 
   lists-tested : listsAreWellFormed (live n) ≡ true
-  lists-tested = formed n h .lists
+  lists-tested = well-formed n h .lists
 
   few-nodes : n .count ≤ capacity
-  few-nodes = formed n h .few-nodes
+  few-nodes = well-formed n h .few-nodes
 
   few-messages : n .waiting ≤ queueLimit
-  few-messages = formed n h .few-messages
+  few-messages = well-formed n h .few-messages
 
   pub same : held (live n) ≡ n
   same = held-live n (l .nodes) (l .messages) h
@@ -186,18 +186,18 @@ module _ (n : Network) (l : Lengths n) (h : wellFormed n ≡ true) where
       let network = ap (λ m. added m (declaredOf key)) (sym same) ∙ added-held (live n) (declaredOf key) (omega (arith, nodes-length n l h)) in
       rw (lt-ltb (n .count) capacity room) (λ i. record { network = network i; posted = 0; said = done (Declared (number i) key) })
 
-  -- ---- tests that say what the rules say settle the call
-  settles : (call : Call) (o : Option Reason) (accepted : Decided) → o ≡ first (rulesOf (live n) call)
-      → (o ≡ none → outcome n accepted ≡ counted (inArrays (effectOf (live n) call))) → outcome n (settled o turnedAway accepted) ≡ counted (applyOf n call)
+  -- ---- tests that say what the rules say decide the call
+  comes-to : (call : Call) (o : Option Reason) (accepted : Decided) → o ≡ first (rulesOf (live n) call)
+      → (o ≡ none → outcome n accepted ≡ counted (inArrays (effectOf (live n) call))) → outcome n (unlessRefused o turnedAway accepted) ≡ counted (applyOf n call)
   unfolding applyOf applyToLists committed
-  settles call none accepted says carried = carried refl ∙ rw (h, sym says)
-  settles call (some r) accepted says carried = ap counted (sym (refused-here n l call r h (rw (sym says))))
+  comes-to call none accepted says carried = carried refl ∙ rw (h, sym says)
+  comes-to call (some r) accepted says carried = ap counted (sym (refused-here n l call r h (rw (sym says))))
 
   -- ---- each call
   decides-declare : (key : ℕ) → outcome n (decisionOn n (Order (Declare key))) ≡ counted (applyOf n (Order (Declare key)))
   unfolding decisionOn
   decides-declare key =
-      settles (Order (Declare key)) (first (declareTests key (n .count) (keyIsTakenIn n key))) (adding (n .count) key)
+      comes-to (Order (Declare key)) (first (declareTests key (n .count) (keyIsTakenIn n key))) (adding (n .count) key)
       (rw lists-tested (λ i. cond (not (inRange key)) (some (plain 4)) (cond (not (ltb (sym (nodes-length n l h) i) capacity)) (some (plain 20)) (cond (taken-read key i) (some (plain 21)) none))))
       (λ clear. let (_, (room, _)) = cleared (declareTests key (n .count) (keyIsTakenIn n key)) clear in adds-outcome key (tested-below (n .count) capacity room))
 
@@ -205,7 +205,7 @@ module _ (n : Network) (l : Lengths n) (h : wellFormed n ≡ true) where
   unfolding decisionOn
   decides-create u =
       let found : Found = record { taken = false; standing = someStands n; notice = noticeWaitsIn n u } in
-      settles (Order (Create u)) (unless (ltb u (n .count)) (first (createTests found))) (stepping u (createOf u (nodeIn n u)))
+      comes-to (Order (Create u)) (unless (ltb u (n .count)) (first (createTests found))) (stepping u (createOf u (nodeIn n u)))
       (unless-says (ltb u (n .count)) (first (createTests found)) (first (createRules (live n) u)) says absent)
       (λ clear.
       let here = ltb-true u (n .count) (unless-known (ltb u (n .count)) (first (createTests found)) clear .0) in
@@ -226,7 +226,7 @@ module _ (n : Network) (l : Lengths n) (h : wellFormed n ≡ true) where
       λ v k. ap (λ (node : Node). record { number = v; key = node .key }) (node-read v k) in
       let sound : not (nodeIsSound u (nodeAt (live n) u) && (peerFits (peerAt (live n) p) && peerFits (peerAt (live n) q))) ≡ false =
       rw (node-sound (live n) lists u (ap not (known u here)), peer-sound (live n) lists p (ap not (known p left)), peer-sound (live n) lists q (ap not (known q right))) in
-      (λ i. joinFormed u (node-read u here i) (neighbour p left i) (neighbour q right i)) ∙ join-tested u (nodeAt (live n) u) (peerAt (live n) p) (peerAt (live n) q) sound
+      (λ i. joinUnchecked u (node-read u here i) (neighbour p left i) (neighbour q right i)) ∙ join-tested u (nodeAt (live n) u) (peerAt (live n) p) (peerAt (live n) q) sound
 
   module _ (u p q : ℕ) where
     abbrev joined : Effect
@@ -259,7 +259,7 @@ module _ (n : Network) (l : Lengths n) (h : wellFormed n ≡ true) where
     decides-join : outcome n (decisionOn n (Order (Join u p q))) ≡ counted (applyOf n (Order (Join u p q)))
     unfolding decisionOn
     decides-join =
-        settles (Order (Join u p q)) (unless all-known (afterStep (joined .said) (first rest))) (stepping u joined) join-tests
+        comes-to (Order (Join u p q)) (unless all-known (afterStep (joined .said) (first rest))) (stepping u joined) join-tests
         (λ clear.
         let (all, after) = unless-known all-known (afterStep (joined .said) (first rest)) clear in
         let (here, left, right) = three all in
@@ -269,10 +269,10 @@ module _ (n : Network) (l : Lengths n) (h : wellFormed n ≡ true) where
 
   module _ (u : ℕ) where
     abbrev left : Effect
-    left = leaveFormed u (nodeIn n u)
+    left = leaveUnchecked u (nodeIn n u)
 
     -- the step of a leave is that of the list's node
-    leave-read : u < n .count → leaveFormed u (nodeAt (live n) u) ≡ leaveOf u (nodeAt (live n) u)
+    leave-read : u < n .count → leaveUnchecked u (nodeAt (live n) u) ≡ leaveOf u (nodeAt (live n) u)
     leave-read here = leave-tested u (nodeAt (live n) u) (ap not (node-sound (live n) lists u (ap not (known u here))))
 
     leave-tests : leaveTests u (n .count) (n .waiting) (nodeIn n u) ≡ first (leaveRules (live n) u)
@@ -281,7 +281,7 @@ module _ (n : Network) (l : Lengths n) (h : wellFormed n ≡ true) where
         says : ltb u (n .count) ≡ true → afterStep (left .said) (first (roomTests (n .waiting) (left .posts))) ≡ first (leaveRules (live n) u)
         says t =
             let here = ltb-true u (n .count) t in
-            (λ i. afterStep (leaveFormed u (node-read u here i) .said) (first (roomTests (sym (messages-length n l h) i) (leaveFormed u (node-read u here i) .posts))))
+            (λ i. afterStep (leaveUnchecked u (node-read u here i) .said) (first (roomTests (sym (messages-length n l h) i) (leaveUnchecked u (node-read u here i) .posts))))
             ∙ (λ i. afterStep (leave-read here i .said) (first (roomTests (length (live n .messages)) (leave-read here i .posts))))
             ∙ leave-says (live n) lists u (known u here)
 
@@ -291,12 +291,12 @@ module _ (n : Network) (l : Lengths n) (h : wellFormed n ≡ true) where
     decides-leave : outcome n (decisionOn n (Order (Leave u))) ≡ counted (applyOf n (Order (Leave u)))
     unfolding decisionOn
     decides-leave =
-        settles (Order (Leave u)) (leaveTests u (n .count) (n .waiting) (nodeIn n u)) (stepping u left) leave-tests
+        comes-to (Order (Leave u)) (leaveTests u (n .count) (n .waiting) (nodeIn n u)) (stepping u left) leave-tests
         (λ clear.
         let (t, after) = unless-known (ltb u (n .count)) (afterStep (left .said) (first (roomTests (n .waiting) (left .posts)))) clear in
         let here = ltb-true u (n .count) t in
         steps-outcome u left here (room-cleared (n .waiting) (left .posts) (after-cleared (left .said) (first (roomTests (n .waiting) (left .posts))) after))
-        ∙ ap (λ (node : Node). counted (inArrays (commit (live n) u (live n .messages) (leaveFormed u node)))) (node-read u here)
+        ∙ ap (λ (node : Node). counted (inArrays (commit (live n) u (live n .messages) (leaveUnchecked u node)))) (node-read u here)
         ∙ ap (λ (e : Effect). counted (inArrays (commit (live n) u (live n .messages) e))) (leave-read here))
 
   module _ (place : ℕ) where
@@ -330,7 +330,7 @@ module _ (n : Network) (l : Lengths n) (h : wellFormed n ≡ true) where
     decides-deliver : outcome n (decisionOn n (Deliver place)) ≡ counted (applyOf n (Deliver place))
     unfolding decisionOn
     decides-deliver =
-        settles (Deliver place) (first (deliverTests place arrival)) (delivering place (arrival .message .to) received) deliver-tests
+        comes-to (Deliver place) (first (deliverTests place arrival)) (delivering place (arrival .message .to) received) deliver-tests
         (λ clear.
         let (waiting, (room, _)) = cleared (deliverTests place arrival) clear in
         let there = tested-below place (n .waiting) waiting in

@@ -1,5 +1,5 @@
 -- The two functions that take any network where it lies, as one walk: the network is read whole and handed by value to a function that admits what is
--- asked, and what it gives is the task that the network is lent on to `in_place::perform` for.
+-- asked, and what it gives is the task that the network is lent on to `in_place::execute` for.
 --     door σ τ f       the MIR of such a function: its references are said to point to σ, its second parameter has the type τ, and f admits what is asked.
 --                      The generated `function` is this by computation
 --     enters           the walk of it, where f gives a task that comes to what is asked (`Admits` of `TaskLaws.antt`)
@@ -45,8 +45,8 @@ use Rattle.task.specs.declared.Task.{Task}
 use Rattle.engine.specs.Outcomes.{Applied, counted}
 use Rattle.engine.specs.Computed.{doneOn, Allowed}
 use Rattle.task.proofs.Task.Laws as task-laws
-use Rattle.engine.proofs.in_place.perform as perform
-use Rattle.engine.proofs.in_place.perform.Symbol.{name as #engine·in-place·perform}
+use Rattle.engine.proofs.in_place.execute as execute
+use Rattle.engine.proofs.in_place.execute.Symbol.{name as #engine·in-place·execute}
 use Rattle.stores.proofs.Reading.{a-network}
 use Rattle.ruling.proofs.Values.{IsOf, a-report, report-typed}
 use Rattle.engine.proofs.TaskValues.{a-task, task-typed}
@@ -60,22 +60,22 @@ door σ τ f = record {
   locals = local report-laws.mir valueLocal ∷ local (tyRef (named 0) mut σ) valueLocal ∷ local τ valueLocal ∷ local task-laws.mir valueLocal
       ∷ local net-laws.mir valueLocal ∷ local (tyRef erased mut σ) valueLocal ∷ [];
   body = seq (assign (place 4 []) (rvOpd (copy (place 1 (deref net-laws.mir ∷ []))))) (seq (call f (copy (place 4 []) ∷ copy (place 2 []) ∷ []) (place 3 []))
-      (seq (assign (place 5 []) (addrOf (place 1 (deref net-laws.mir ∷ [])))) (seq (call #engine·in-place·perform (copy (place 5 []) ∷ copy (place 3 []) ∷ []) (place 0 [])) return)));
+      (seq (assign (place 5 []) (addrOf (place 1 (deref net-laws.mir ∷ [])))) (seq (call #engine·in-place·execute (copy (place 5 []) ∷ copy (place 3 []) ∷ []) (place 0 [])) return)));
 }
 
--- ---- `in_place::perform`: its contract, and that it can be lent a network
+-- ---- `in_place::execute`: its contract, and that it can be lent a network
 module _ {M : Type 1} (𝓤 : URA M) (H : Heap 𝓤) (A : Atoms 𝓤) (at-mem : Memory → SProp 𝓤) (run : Routine → Fun 𝓤) where
-  abbrev pub Perform : Contract 𝓤
-  Perform = tripleOf 𝓤 H A perform.signature (perform.spec 𝓤 H A at-mem run)
+  abbrev pub Execute : Contract 𝓤
+  Execute = tripleOf 𝓤 H A execute.signature (execute.spec 𝓤 H A at-mem run)
 
 module _ {M : Type 1} (𝓤 : URA M) (H : Heap 𝓤) (A : Atoms 𝓤) (W : Given 𝓤 H A) (at-mem : Memory → SProp 𝓤) (run : Routine → Fun 𝓤) (b o : ℕ) (n : Network) where
-  abbrev perform-lends : (t : Task) → IsOf a-task t → Allowed n t → Lends b o 𝓤 H A a-report (Reports (doneOn n t)) (Perform 𝓤 H A at-mem run) n
-  perform-lends t t-is asks = lends 𝓤 H A W (a-task ∷ []) a-report (perform.clauses 𝓤 H A at-mem run) b o n (λ κs. (t, tt)) (λ k. tt) (Allowed n t) (Reports (doneOn n t))
+  abbrev execute-lends : (t : Task) → IsOf a-task t → Allowed n t → Lends b o 𝓤 H A a-report (Reports (doneOn n t)) (Execute 𝓤 H A at-mem run) n
+  execute-lends t t-is asks = lends 𝓤 H A W (a-task ∷ []) a-report (execute.clauses 𝓤 H A at-mem run) b o n (λ κs. (t, tt)) (λ k. tt) (Allowed n t) (Reports (doneOn n t))
       (λ κs. (t-is, tt)) (λ k. id⊢ 𝓤 _) (λ k r zs. id⊢ 𝓤 _) asks
 
 -- ---- the walk
 module _ {M : Type 1} (𝓤 : URA M) (H : Heap 𝓤) (A : Atoms 𝓤) (W : Given 𝓤 H A) (at-mem : Memory → SProp 𝓤) (run : Routine → Fun 𝓤) (𝓣 : Tables 𝓤 H)
-    (known-perform : Triple 𝓤 (𝓣 .C #engine·in-place·perform) (Perform 𝓤 H A at-mem run))
+    (known-execute : Triple 𝓤 (𝓣 .C #engine·in-place·execute) (Execute 𝓤 H A at-mem run))
     (D : Data) (tells : Tells (D .row) (Is (D .row)) (λ x. word D x ∷ [])) where
   -- the second parameter's type, a value of which is one machine value
   abbrev One : Data
@@ -104,10 +104,10 @@ module _ {M : Type 1} (𝓤 : URA M) (H : Heap 𝓤) (A : Atoms 𝓤) (W : Given
         calls-plain ! (fmOf 𝓤 H (W .laws) 𝓣) Ps a-task c known-admit (n, (x, tt)) (k .is, (x-is, tt)) g asked (λ t. Admits n t done-so) said
         (and-then ! (var ! 7 refl) (and-then ! (var ! 11 refl) (no-more !))) (λ t t-is admits.
         lands-in ! 8 refl (task-typed 𝓤 H A W t t-is) $
-        -- _5 = &mut *_1, _0 = perform(_5, _3), return
+        -- _5 = &mut *_1, _0 = execute(_5, _3), return
         sets ! 4 refl (addr ! (from ! (hop ! (look ! 12 refl) (stop !)))) (tt, tt) $
-        calls-giving ! b o (fmOf 𝓤 H (W .laws) 𝓣) (Perform 𝓤 H A at-mem run) known-perform a-report (Reports (doneOn n t)) n
-        (perform-lends 𝓤 H A W at-mem run b o n t t-is (admits .allowed))
+        calls-giving ! b o (fmOf 𝓤 H (W .laws) 𝓣) (Execute 𝓤 H A at-mem run) known-execute a-report (Reports (doneOn n t)) n
+        (execute-lends 𝓤 H A W at-mem run b o n t t-is (admits .allowed))
         (λ k. (and-then ! (var ! 5 refl) (and-then ! (var ! 9 refl) (no-more !)))) (λ r m is fact.
         lands-in ! 14 refl (report-typed 𝓤 H A W r is) $
         close-ref ! tt (mem net.the-row) (m) {b = b} {o = o} $

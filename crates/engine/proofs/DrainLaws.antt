@@ -10,8 +10,8 @@ use native.Mathlib.Omega.{arith}
 use lib.ListN.{length, length-append, length-replicate}
 use lib.Dec.{ltb}
 use borrow.Author.Tests.{lt-ltb, ltb-true, ltb-false}
-use Rattle.truth.proofs.Laws.{both}
-use Rattle.truth.proofs.TestLaws.{decided, holds, is-true, not-both}
+use Rattle.predicates.proofs.Laws.{both}
+use Rattle.predicates.proofs.TestLaws.{decided, holds, is-true, not-both}
 use Rattle.refusal.specs.Rules.{done, first}
 use Rattle.node.specs.Shape.{capacity}
 use Rattle.protocol.specs.declared.Call.the-variants.{Deliver}
@@ -19,7 +19,7 @@ use Rattle.protocol.specs.declared.Reply.the-variants.{Ran}
 use Rattle.protocol.specs.State.{State, queueLimit, wellFormed as listsAreWellFormed}
 use Rattle.protocol.specs.Calls.{deliverRules, applyOf as applyToLists}
 use Rattle.protocol.specs.Drain.{lowestFrom, lowest, afterDelivery, places, deliverAll, postsOfAll, drainOf as drainLists}
-use Rattle.protocol.proofs.Facts.{formed as lists-formed}
+use Rattle.protocol.proofs.Facts.{well-formed as lists-well-formed}
 use Rattle.protocol.proofs.Lively.{steady}
 use Rattle.protocol.proofs.Cases.{accepted-case}
 use Rattle.protocol.proofs.Refusals.{accepted-said}
@@ -28,7 +28,7 @@ use Rattle.protocol.proofs.Posted.{few-posts}
 use Rattle.network.specs.declared.Network.{Network}
 use Rattle.network.specs.Arrays.{vacantNode, vacantMessage, live, wellFormed, filled, held}
 use Rattle.network.proofs.Lengths.{Lengths}
-use Rattle.network.proofs.ArrayLaws.{formed, live-held, held-well-formed}
+use Rattle.network.proofs.ArrayLaws.{well-formed, live-held, held-well-formed}
 use Rattle.network.proofs.LiveLaws.{messages-length}
 use Rattle.engine.specs.Outcomes.{Counted, counted, inArrays, applyOf, drainOf}
 use Rattle.engine.specs.Computed.{placeOf, nextDelivery}
@@ -41,7 +41,7 @@ filled-length n blank l few = simp (length-append, length-replicate) (omega arit
 
 held-lengths : (s : State) → listsAreWellFormed s ≡ true → Lengths (held s)
 held-lengths s h =
-    let w = lists-formed s h in
+    let w = lists-well-formed s h in
     record { nodes = filled-length capacity vacantNode (s .nodes) (w .few-nodes); messages = filled-length queueLimit vacantMessage (s .messages) (w .few-messages) }
 
 -- ---- where a delivery is to be had
@@ -52,7 +52,7 @@ first-is-lowest n l h waits few =
     let all = messages-length n l h in
     let room : ltb (length (live n .messages)) queueLimit ≡ true = lt-ltb (length (live n .messages)) queueLimit (omega (arith, all)) in
     let present : ltb 0 (length (live n .messages)) ≡ true = lt-ltb 0 (length (live n .messages)) (omega (arith, all)) in
-    let clear : first (deliverRules (live n) 0) ≡ none = simp (formed n h .lists, room, present) in
+    let clear : first (deliverRules (live n) 0) ≡ none = simp (well-formed n h .lists, room, present) in
     lowest-at (live n) 0 (omega (arith, all)) (λ q k. absurd (omega arith)) (rw clear (is-true _ (accepted-said (accepted-case (live n) (Deliver 0) clear))))
 
 -- where a message waits the search for the lowest place ends at one
@@ -66,7 +66,7 @@ ends-somewhere s (suc k) from q above below can =
 
 next-place : (n : Network) → Lengths n → wellFormed n ≡ true → 0 < n .waiting → lowest (live n) ≡ some (placeOf (lowest (live n)))
 next-place n l h waits =
-    let (q, there, can) = some-lowest (live n) (holds (formed n h .lists)) (omega (arith, messages-length n l h)) in
+    let (q, there, can) = some-lowest (live n) (holds (well-formed n h .lists)) (omega (arith, messages-length n l h)) in
     ends-somewhere (live n) (length (live n .messages)) 0 q (omega arith) (omega arith) (is-true _ can)
 
 -- the code looks for that place
@@ -115,7 +115,7 @@ module _ {start : Network} {budget : ℕ} {n : Network} {made posted : ℕ} (u :
 
     kept : listsAreWellFormed next ≡ true
     unfolding next
-    kept = is-true _ (steady (live n) (holds (formed n (u .well-formed) .lists)) .kept (Deliver place))
+    kept = is-true _ (steady (live n) (holds (well-formed n (u .well-formed) .lists)) .kept (Deliver place))
 
     came : (x .network ≡ held next) × (x .posted ≡ length (applyToLists (live n) (Deliver place) .posts))
     unfolding applyOf next
@@ -167,7 +167,7 @@ module _ {start : Network} {budget : ℕ} {n : Network} {made posted : ℕ} (u :
       let left : n .waiting ≡ length (deliverAll (live start) (places budget (live start)) .messages) =
       sym (messages-length n (u .arrays) (u .well-formed)) ∙ ap (λ (s : State). length (s .messages)) end in
       let sent : posted ≡ length (postsOfAll (live start) (places budget (live start))) = omega (arith, u .posts, ap (λ l. length (postsOfAll (live n) l)) none-left) in
-      rw (h, formed start h .lists) (λ i. record { network = network i; posted = sent i; said = done (Ran (all i) (left i)) })
+      rw (h, well-formed start h .lists) (λ i. record { network = network i; posted = sent i; said = done (Ran (all i) (left i)) })
 
   pub stops : wellFormed start ≡ true → (ltb made budget && ltb 0 (n .waiting)) ≡ false
       → record { network = n; posted = posted; said = done (Ran made (n .waiting)) } ≡ counted (drainOf start budget)

@@ -15,7 +15,7 @@ use Rattle.protocol.specs.Questions.{insertedWord, insertedCount, insertedOf as
 use Rattle.protocol.specs.FurtherClaims.{FindsOwner}
 use Rattle.protocol.proofs.Owners.{owner-found, always-found}
 use Rattle.network.specs.Arrays.{empty}
-use Rattle.network.proofs.ArrayLaws.{formed}
+use Rattle.network.proofs.ArrayLaws.{well-formed}
 use Rattle.engine.specs.Outcomes.{run}
 use Rattle.engine.proofs.RunLaws.{run-live, run-well-formed}
 use Rattle.engine.specs.Answers.{insertedOf, ownerOf}
@@ -23,7 +23,7 @@ use Rattle.engine.specs.Answers.{insertedOf, ownerOf}
 -- ---- who is inserted
 pub run-inserted : (calls : List Call) → insertedOf (run empty calls) ≡ done (Inserted (insertedWord (history calls .state)) (insertedCount (history calls .state)))
 unfolding insertedOf insertedInLists
-run-inserted calls = let h = run-well-formed calls in rw (h, formed (run empty calls) h .lists) (ap (λ s. done (Inserted (insertedWord s) (insertedCount s))) (run-live calls))
+run-inserted calls = let h = run-well-formed calls in rw (h, well-formed (run empty calls) h .lists) (ap (λ s. done (Inserted (insertedWord s) (insertedCount s))) (run-live calls))
 
 -- ---- the owner of a serial
 pub run-owner : (calls : List Call) (start serial : ℕ) → ownerOf (run empty calls) start serial ≡ ownerInLists (history calls .state) start serial

@@ -7,7 +7,7 @@ use mathlib.Core.Bool.{true, false}
 use mathlib.Core.List.{List, [], _∷_, _++_, map}
 use Prim.Native.Nat.{ℕ}
 use lib.ListN.{length}
-use Rattle.truth.proofs.TestLaws.{holds, is-true, decided}
+use Rattle.predicates.proofs.TestLaws.{holds, is-true, decided}
 use Rattle.refusal.specs.Code.{Reason, plain}
 use Rattle.refusal.specs.Rules.{Coded, done, no}
 use Rattle.protocol.specs.declared.Call.{Call}

@@ -10,10 +10,10 @@ use native.Mathlib.Omega.{arith}
 use lib.ListN.{length}
 use lib.Dec.{leb, ltb}
 use borrow.Author.Tests.{le-leb, lt-ltb}
-use Rattle.truth.proofs.Laws.{true-is-not-false, and-false, by-test}
-use Rattle.truth.proofs.TestLaws.{decided}
+use Rattle.predicates.proofs.Laws.{true-is-not-false, and-false, by-test}
+use Rattle.predicates.proofs.TestLaws.{decided}
 use Rattle.refusal.specs.Code.{Reason}
-use Rattle.refusal.specs.Rules.{done, Rule, _when_, first, settled, ruled}
+use Rattle.refusal.specs.Rules.{done, Rule, _when_, first, unlessRefused, ruled}
 use Rattle.refusal.proofs.Laws.{first-append, cleared}
 use Rattle.sequence.specs.Sequence.{newer, nextSeq}
 use Rattle.parts.specs.declared.Status.{Status}
@@ -36,7 +36,7 @@ use Rattle.protocol.specs.Calls.{isFull, peerAt, joinRules as joinCallRules, le
 use Rattle.protocol.proofs.Facts.{WellFormed, tested}
 use Rattle.protocol.proofs.Waiting.{taken}
 use Rattle.protocol.proofs.Cases.{received}
-use Rattle.settling.specs.Settling.{afterStep, roomTests}
+use Rattle.decision.specs.Decided.{afterStep, roomTests}
 
 -- ---- how much a step posts
 not-out : (status : Status) → isIn status ≡ true → isOut status ≡ false
@@ -54,7 +54,7 @@ pub create-posts : (me : ℕ) (u : Node) → length (createOf me u .posts) ≡ 0
 unfolding createOf
 create-posts me u = go (first (createRules me u))
   where
-    go : (o : Option Reason) → length (settled o (refused u) (creating me u) .posts) ≡ 0
+    go : (o : Option Reason) → length (unlessRefused o (refused u) (creating me u) .posts) ≡ 0
     go none = refl
     go (some n) = refl
 
@@ -82,7 +82,7 @@ after-own : (rules rest : List Rule) (u : Node) (accepted : Effect) (o : Outcome
     → (first rules ≡ none → tested ≡ first rest) → afterStep (ruled rules (refused u) accepted .said) tested ≡ first (rules ++ rest)
 after-own rules rest u accepted o tested says agrees = go (first rules) refl ∙ sym (first-append rules rest)
   where
-    go : (f : Option Reason) → first rules ≡ f → afterStep (settled f (refused u) accepted .said) tested ≡ settled f some (first rest)
+    go : (f : Option Reason) → first rules ≡ f → afterStep (unlessRefused f (refused u) accepted .said) tested ≡ unlessRefused f some (first rest)
     go none e = rw says (agrees e)
     go (some n) e = refl
 

@@ -27,10 +27,10 @@ use Rattle.printout.proofs.Laws.{printed-short, printed-there}
 use Rattle.progress.specs.declared.Progress.{Progress}
 use Rattle.progress.specs.Leaving.{postedAfter, Leaves, Refuses}
 use Rattle.engine.specs.declared.printing.Kept.{Kept}
-use Rattle.course.specs.Performance.{performOf as performOnLists}
+use Rattle.course.specs.Execution.{executeOf as executeOnLists}
 use Rattle.course.specs.Run.{Progress as Reached, stepOf, tooLong}
 use Rattle.engine.specs.Outcomes.{Counted, counted, refused, reported}
-use Rattle.engine.specs.InArrays.{performOf}
+use Rattle.engine.specs.InArrays.{executeOf}
 use Rattle.engine.specs.Reached.{reached}
 use Rattle.engine.proofs.RecordLaws.{on-lists, stays-well-formed, few-posted, refused-unchanged}
 use Rattle.engine.proofs.TaskLaws.{task-done}
@@ -102,14 +102,14 @@ module _ (script : List ℕ) (n : Network) (l : Lengths n) (h : wellFormed n ≡
                 ∙ rw (here, e);
           }
       go (next asked c) e (is, cursor) x done =
-          let performed : x ≡ counted (performOf n asked) = done ∙ ap (λ t. counted (doneOn n t)) is ∙ task-done n l h asked in
-          let lists : live (x .network) ≡ performOnLists (live n) asked .state = ap (λ (y : Counted). live (y .network)) (on-lists n h asked x performed) ∙ live-held (performOnLists (live n) asked .state) in
-          let here-posted : x .posted ≡ length (performOnLists (live n) asked .posts) = ap (λ (y : Counted). y .posted) (on-lists n h asked x performed) in
-          let here-said : x .said ≡ performOnLists (live n) asked .said = ap (λ (y : Counted). y .said) (on-lists n h asked x performed) in
+          let executed : x ≡ counted (executeOf n asked) = done ∙ ap (λ t. counted (doneOn n t)) is ∙ task-done n l h asked in
+          let lists : live (x .network) ≡ executeOnLists (live n) asked .state = ap (λ (y : Counted). live (y .network)) (on-lists n h asked x executed) ∙ live-held (executeOnLists (live n) asked .state) in
+          let here-posted : x .posted ≡ length (executeOnLists (live n) asked .posts) = ap (λ (y : Counted). y .posted) (on-lists n h asked x executed) in
+          let here-said : x .said ≡ executeOnLists (live n) asked .said = ap (λ (y : Counted). y .said) (on-lists n h asked x executed) in
           record {
-            kept = stays-well-formed n h asked x performed;
-            few = few-posted n h asked x performed;
-            quiet = λ r f. refused-unchanged n h asked x performed l r f .1;
+            kept = stays-well-formed n h asked x executed;
+            few = few-posted n h asked x executed;
+            quiet = λ r f. refused-unchanged n h asked x executed l r f .1;
             comes = λ p r text buffer here (left, ordinal, posted, printed, _).
                 (λ i. record { state = lists i; at = (left ∙ cursor) i; ordinal = ordinal i; posted = (posted ∙ ap (λ k. p .posted + k) here-posted) i; text = (printed ∙ ap (λ s. take (p .used) text ++ lineOf (p .ordinal + 1) s) here-said) i })
                 ∙ rw (here, e);

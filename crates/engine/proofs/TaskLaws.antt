@@ -10,10 +10,10 @@ use native.Mathlib.Omega.{arith}
 use lib.ListN.{length}
 use lib.Dec.{ltb}
 use borrow.Author.Tests.{ltb-true, ltb-false, lt-ltb, le-ltb}
-use Rattle.truth.proofs.TestLaws.{decided}
+use Rattle.predicates.proofs.TestLaws.{decided}
 use Rattle.refusal.specs.declared.Refusal.the-variants.{Malformed}
 use Rattle.refusal.specs.Code.{Reason, plain}
-use Rattle.refusal.specs.Rules.{Coded, no, _when_, first, settled}
+use Rattle.refusal.specs.Rules.{Coded, no, _when_, first, unlessRefused}
 use Rattle.serial.specs.declared.Serial.{Serial}
 use Rattle.serial.specs.declared.Serial.the-variants.{Value, BadDigit, TooLarge}
 use Rattle.serial.specs.Serial.{coded}
@@ -26,7 +26,7 @@ use Rattle.protocol.specs.Questions.{ownerOf as ownerInLists}
 use Rattle.network.specs.declared.Network.{Network}
 use Rattle.network.specs.Arrays.{live, wellFormed, held}
 use Rattle.network.proofs.Lengths.{Lengths}
-use Rattle.network.proofs.ArrayLaws.{formed, held-live}
+use Rattle.network.proofs.ArrayLaws.{well-formed, held-live}
 use Rattle.network.proofs.LiveLaws.{nodes-length}
 use Rattle.owners.specs.Owners.{ownerAsked}
 use Rattle.owners.proofs.QuestionLaws.{owner-live}
@@ -35,8 +35,8 @@ use Rattle.script.specs.declared.Record.the-variants as asks
 use Rattle.report.specs.declared.Report.{Report}
 use Rattle.engine.specs.Outcomes.{Applied, counted, reported, refused, inArrays, applyOf, drainOf}
 use Rattle.engine.specs.Answers.{ownerOf}
-use Rattle.course.specs.Performance.{fieldRules, valueOf, saying, performOf as performOnLists}
-use Rattle.engine.specs.InArrays.{performOf}
+use Rattle.course.specs.Execution.{fieldRules, valueOf, saying, executeOf as executeOnLists}
+use Rattle.engine.specs.InArrays.{executeOf}
 use Rattle.task.specs.declared.Task.{Task}
 use Rattle.task.specs.declared.Task.the-variants.{Refuse, Call as CallTask, Drain}
 use Rattle.task.specs.Tasks.{taskOf}
@@ -45,7 +45,7 @@ use Rattle.engine.proofs.RunLaws.{malformed, malformed-drain}
 
 -- what is only said, or refused, leaves the lists and posts nothing
 quiet : (s : State) {n : Network} → held s ≡ n → (o : Option Reason) (said : Coded Reply)
-    → inArrays (settled o (listsRefused s) (saying s said)) ≡ record { network = n; posts = []; said = settled o (listsRefused s) (saying s said) .said }
+    → inArrays (unlessRefused o (listsRefused s) (saying s said)) ≡ record { network = n; posts = []; said = unlessRefused o (listsRefused s) (saying s said) .said }
 quiet s e none said = rw e
 quiet s e (some r) said = rw e
 
@@ -63,57 +63,57 @@ module _ (n : Network) (l : Lengths n) (h : wellFormed n ≡ true) where
 
   -- ---- the owner of a serial, as a record asks it
   module _ (start : ℕ) where
-    owner-undeclared : (serial : Serial) → n .count ≤ start → no (plain 5) ≡ performOf n (asks.Owner start serial) .said
-    unfolding performOf performOnLists
+    owner-undeclared : (serial : Serial) → n .count ≤ start → no (plain 5) ≡ executeOf n (asks.Owner start serial) .said
+    unfolding executeOf executeOnLists
     owner-undeclared serial past =
         let absent : declared (live n) start ≡ false = le-ltb start (length (live n .nodes)) (omega (arith, nodes-length n l h)) in
-        simp (h, formed n h .lists, absent)
+        simp (h, well-formed n h .lists, absent)
 
     known : start < n .count → declared (live n) start ≡ true
     known here = lt-ltb start (length (live n .nodes)) (omega (arith, nodes-length n l h))
 
-    owner-serial-refused : start < n .count → (serial : Serial) (r : Reason) → coded serial ≡ no r → no r ≡ performOf n (asks.Owner start serial) .said
-    unfolding performOf performOnLists
-    owner-serial-refused here serial r e = rw (h, formed n h .lists, known here, e)
+    owner-serial-refused : start < n .count → (serial : Serial) (r : Reason) → coded serial ≡ no r → no r ≡ executeOf n (asks.Owner start serial) .said
+    unfolding executeOf executeOnLists
+    owner-serial-refused here serial r e = rw (h, well-formed n h .lists, known here, e)
 
-    owner-asked : start < n .count → {serial : Serial} {value : ℕ} → serial ≡ Value value → ownerOf n start value ≡ performOf n (asks.Owner start serial) .said
-    unfolding performOf performOnLists ownerOf
-    owner-asked here e = rw (h, formed n h .lists, known here, e)
+    owner-asked : start < n .count → {serial : Serial} {value : ℕ} → serial ≡ Value value → ownerOf n start value ≡ executeOf n (asks.Owner start serial) .said
+    unfolding executeOf executeOnLists ownerOf
+    owner-asked here e = rw (h, well-formed n h .lists, known here, e)
 
     -- what the arrays are asked is what the record says
-    owner-performed : (serial : Serial) → ownerAsked n start serial ≡ performOf n (asks.Owner start serial) .said
+    owner-executed : (serial : Serial) → ownerAsked n start serial ≡ executeOf n (asks.Owner start serial) .said
     unfolding ownerOf
-    owner-performed serial = ⊎-elim (λ t. there (ltb-true start (n .count) t) serial) (λ f. absent f serial) (decided (ltb start (n .count)))
+    owner-executed serial = ⊎-elim (λ t. there (ltb-true start (n .count) t) serial) (λ f. absent f serial) (decided (ltb start (n .count)))
       where
-        there : start < n .count → (serial : Serial) → ownerAsked n start serial ≡ performOf n (asks.Owner start serial) .said
+        there : start < n .count → (serial : Serial) → ownerAsked n start serial ≡ executeOf n (asks.Owner start serial) .said
         there here (Value value) = owner-live n l h start value ∙ rw h at (owner-asked here {serial = Value value} {value = value} refl)
         there here BadDigit = rw (lt-ltb start (n .count) here) (owner-serial-refused here BadDigit _ refl)
         there here TooLarge = rw (lt-ltb start (n .count) here) (owner-serial-refused here TooLarge _ refl)
 
-        absent : ltb start (n .count) ≡ false → (serial : Serial) → ownerAsked n start serial ≡ performOf n (asks.Owner start serial) .said
+        absent : ltb start (n .count) ≡ false → (serial : Serial) → ownerAsked n start serial ≡ executeOf n (asks.Owner start serial) .said
         absent f (Value value) = rw f (owner-undeclared (Value value) (ltb-false start (n .count) f))
         absent f BadDigit = rw f (owner-undeclared BadDigit (ltb-false start (n .count) f))
         absent f TooLarge = rw f (owner-undeclared TooLarge (ltb-false start (n .count) f))
 
     -- it leaves the network and posts nothing, whether or not it is refused
-    owner-leaves : (serial : Serial) → performOf n (asks.Owner start serial) ≡ record { network = n; posts = []; said = performOf n (asks.Owner start serial) .said }
-    unfolding performOf performOnLists
+    owner-leaves : (serial : Serial) → executeOf n (asks.Owner start serial) ≡ record { network = n; posts = []; said = executeOf n (asks.Owner start serial) .said }
+    unfolding executeOf executeOnLists
     owner-leaves serial =
         rw h (quiet (live n) same (first ((6 when not (listsAreWellFormed (live n))) ∷ fieldRules (live n) (asks.Owner start serial))) (ownerInLists (live n) start (valueOf (coded serial))))
 
     -- the answer, told
-    pub owner-told : (serial : Serial) (r : Report) → answered (r .answer) ≡ ownerAsked n start serial → r .posted ≡ 0 → Reports (performOf n (asks.Owner start serial)) r n
-    owner-told serial r says none-posted = told-so n r (says ∙ owner-performed serial) none-posted ∙ ap counted (sym (owner-leaves serial))
+    pub owner-told : (serial : Serial) (r : Report) → answered (r .answer) ≡ ownerAsked n start serial → r .posted ≡ 0 → Reports (executeOf n (asks.Owner start serial)) r n
+    owner-told serial r says none-posted = told-so n r (says ∙ owner-executed serial) none-posted ∙ ap counted (sym (owner-leaves serial))
 
   -- ---- a record is its task
-  pub task-done : (asked : Record) → counted (doneOn n (taskOf asked)) ≡ counted (performOf n asked)
-  unfolding performOf performOnLists applyOf drainOf
-  task-done (asks.Call call) = rw (h, formed n h .lists)
-  task-done (asks.Declare (Value key)) = rw (h, formed n h .lists)
-  task-done (asks.Declare BadDigit) = rw (h, formed n h .lists, same)
-  task-done (asks.Declare TooLarge) = rw (h, formed n h .lists, same)
+  pub task-done : (asked : Record) → counted (doneOn n (taskOf asked)) ≡ counted (executeOf n asked)
+  unfolding executeOf executeOnLists applyOf drainOf
+  task-done (asks.Call call) = rw (h, well-formed n h .lists)
+  task-done (asks.Declare (Value key)) = rw (h, well-formed n h .lists)
+  task-done (asks.Declare BadDigit) = rw (h, well-formed n h .lists, same)
+  task-done (asks.Declare TooLarge) = rw (h, well-formed n h .lists, same)
   task-done (asks.Owner start serial) = refl
-  task-done (asks.Drain budget) = rw (h, formed n h .lists)
+  task-done (asks.Drain budget) = rw (h, well-formed n h .lists)
 
 -- ---- what is asked of any network: the task where it is well formed, and else to tell 6
 pub record Admits (n : Network) (t : Task) (a : Applied) : Type 0 where

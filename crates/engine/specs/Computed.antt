@@ -10,12 +10,12 @@ use Rattle.protocol.specs.Drain.{lowest}
 use Rattle.network.specs.declared.Network.{Network}
 use Rattle.network.specs.Arrays.{live, wellFormed}
 use Rattle.access.specs.Changes.{committed}
-use Rattle.settling.specs.Settling.{Decided}
+use Rattle.decision.specs.Decided.{Decided}
 use Rattle.script.specs.declared.Record.the-variants as record′
 use Rattle.task.specs.declared.Task.{Task}
 use Rattle.task.specs.declared.Task.the-variants as task
 use Rattle.engine.specs.Outcomes.{Applied, refused, Counted, applyOf, drainOf}
-use Rattle.engine.specs.InArrays.{performOf}
+use Rattle.engine.specs.InArrays.{executeOf}
 
 -- ---- a call
 abbrev pub outcome : Network → Decided → Counted
@@ -33,7 +33,7 @@ nextDelivery n = applyOf n (Deliver (placeOf (lowest (live n))))
 abbrev pub doneOn : Network → Task → Applied
 doneOn n (task.Refuse r) = refused n (reason r)
 doneOn n (task.Call call) = applyOf n call
-doneOn n (task.Owner start serial) = performOf n (record′.Owner start serial)
+doneOn n (task.Owner start serial) = executeOf n (record′.Owner start serial)
 doneOn n (task.Drain budget) = drainOf n budget
 
 abbrev pub Allowed : Network → Task → Type 0

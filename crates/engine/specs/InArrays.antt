@@ -6,8 +6,8 @@ use Rattle.network.specs.declared.Network.{Network}
 use Rattle.network.specs.Arrays.{live, wellFormed}
 use Rattle.engine.specs.Outcomes.{Applied, refused, inArrays}
 use Rattle.script.specs.declared.Record.{Record}
-use Rattle.course.specs.Performance.{performOf as performOnLists}
+use Rattle.course.specs.Execution.{executeOf as executeOnLists}
 
 -- "6 a .. floor handed in is out of shape": the first refusal of every record
-unfoldable pub performOf : Network → Record → Applied
-performOf n asked = cond (wellFormed n) (inArrays (performOnLists (live n) asked)) (refused n (plain 6))
+unfoldable pub executeOf : Network → Record → Applied
+executeOf n asked = cond (wellFormed n) (inArrays (executeOnLists (live n) asked)) (refused n (plain 6))

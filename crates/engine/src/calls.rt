@@ -2,8 +2,8 @@
 ghost use mathlib.Core.Path.{_≡_};
 ghost use Rattle.engine.specs.Outcomes.{called, reported, counted, applyOf};
 use crate::Called;
-use crate::formed;
 use crate::in_place;
+use crate::unchecked;
 use network::Network;
 use protocol::Call;
 use refusal::Refusal;
@@ -14,9 +14,9 @@ pub fn apply(network: Network, call: Call) -> Called
     ensures { λ r. ⌜ called r ≡ counted (applyOf network call) ⌝ }
 {
     if network.is_well_formed() {
-        formed::apply(network, call)
+        unchecked::apply(network, call)
     } else {
-        formed::refuse(network, Refusal::Malformed)
+        unchecked::refuse(network, Refusal::Malformed)
     }
 }
 
@@ -25,5 +25,5 @@ pub fn act(network: &mut Network, call: Call) -> Report
     ensures { λ r. ⌜ reported (now (network .exit)) r ≡ counted (applyOf (now (network .entry)) call) ⌝ }
 {
     let task = admission::admit_call(*network, call);
-    in_place::perform(network, task)
+    in_place::execute(network, task)
 }

@@ -2,8 +2,8 @@
 ghost use mathlib.Core.Path.{_≡_};
 ghost use Rattle.engine.specs.Outcomes.{called, reported, counted, drainOf};
 use crate::Called;
-use crate::formed;
 use crate::in_place;
+use crate::unchecked;
 use network::Network;
 use refusal::Refusal;
 use report::Report;
@@ -13,9 +13,9 @@ pub fn drain(network: Network, budget: u16) -> Called
     ensures { λ r. ⌜ called r ≡ counted (drainOf network budget) ⌝ }
 {
     if network.is_well_formed() {
-        formed::drain(network, budget)
+        unchecked::drain(network, budget)
     } else {
-        formed::refuse(network, Refusal::Malformed)
+        unchecked::refuse(network, Refusal::Malformed)
     }
 }
 
@@ -24,5 +24,5 @@ pub fn drain_in_place(network: &mut Network, budget: u16) -> Report
     ensures { λ r. ⌜ reported (now (network .exit)) r ≡ counted (drainOf (now (network .entry)) budget) ⌝ }
 {
     let task = admission::admit_drain(*network, budget);
-    in_place::perform(network, task)
+    in_place::execute(network, task)
 }

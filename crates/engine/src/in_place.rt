@@ -17,9 +17,9 @@ fn act(network: &mut Network, call: Call) -> Report
     ensures { λ r. ⌜ reported (now (network .exit)) r ≡ counted (applyOf (now (network .entry)) call) ⌝ }
 {
     let decision = ruling::decide_in_place(network, call);
-    let change = settling::change_in(decision);
+    let change = decision::change_in(decision);
     stores::commit(network, change);
-    settling::report_in(decision)
+    decision::report_in(decision)
 }
 
 // A delivery at the lowest place where one is not refused. Only a full queue has a place where a delivery finds no room, so that else the first
@@ -50,7 +50,7 @@ fn drain(network: &mut Network, budget: u16) -> Report
     report::ran(tally, waiting)
 }
 
-pub(crate) fn perform(network: &mut Network, task: Task) -> Report
+pub(crate) fn execute(network: &mut Network, task: Task) -> Report
     requires { ⌜ Allowed (now network) task ⌝ }
     ensures { λ r. ⌜ reported (now (network .exit)) r ≡ counted (doneOn (now (network .entry)) task) ⌝ }
 {

@@ -7,10 +7,10 @@ use report::Report;
 
 mod calls;
 mod drains;
-mod formed;
 mod in_place;
 mod printing;
 mod questions;
+mod unchecked;
 
 pub use calls::act;
 pub use calls::apply;

@@ -48,7 +48,7 @@ fn step(kept: &mut Kept, script: &[u8], text: &mut [u8; 1048576], p: Progress) -
     let at = p.at;
     let asked = task::ask(script, at);
     let task = asked.task;
-    let report = in_place::perform(&mut kept.network, task);
+    let report = in_place::execute(&mut kept.network, task);
     let after = asked.after;
     progress::leave_record(text, p, after, report)
 }

@@ -8,7 +8,7 @@ use native.Mathlib.Omega.{arith}
 use native.Mathlib.Decide.{decLt, ℕ-discrete}
 use native.Mathlib.Nat.{le-of-lt}
 use lib.Dec.{T, ltb, eqb, ltb→lt, lt→ltb, eqb→eq, eqb-refl, T-not, not-T}
-use Rattle.truth.proofs.Laws.{and-T, or-T, or-iff}
+use Rattle.predicates.proofs.Laws.{and-T, or-T, or-iff}
 use Rattle.interval.specs.Interval.{between, within}
 
 -- ---- the facts

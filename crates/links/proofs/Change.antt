@@ -8,7 +8,7 @@ use native.Mathlib.Omega.{arith}
 use Rattle.interval.proofs.Laws.{Between, inside, above, below}
 use Rattle.parts.specs.declared.Link.{Link}
 use Rattle.parts.specs.declared.Link.the-variants.{To}
-use Rattle.truth.proofs.TestLaws.{_∈_}
+use Rattle.predicates.proofs.TestLaws.{_∈_}
 use Rattle.links.proofs.Ring.{here, there, in-right, Ascending, first, Trail, Links, Ring, With, Without}
 use Rattle.links.proofs.Lists.{cut, each-nil, each-cons, swapped, adds-first, adds-between, adds-behind}
 use Rattle.links.proofs.Lists.{ascending-from, ascending-with, ascending-without, others-differ}

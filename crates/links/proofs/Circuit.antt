@@ -10,8 +10,8 @@ use lib.ListN.{length}
 use borrow.Author.Tests.{le-leb, lt-leb}
 use Rattle.parts.specs.declared.Link.{Link}
 use Rattle.parts.specs.declared.Link.the-variants.{To}
-use Rattle.truth.specs.Tests.{count}
-use Rattle.truth.proofs.TestLaws.{_∈_, bit-true, bit-false}
+use Rattle.predicates.specs.Tests.{count}
+use Rattle.predicates.proofs.TestLaws.{_∈_, bit-true, bit-false}
 use Rattle.links.specs.Walk.{move, walk, falls, Circuit, Predecessor}
 use Rattle.links.proofs.Ring.{here, there, in-nil, in-one, Ascending, first, Trail, Ring}
 use Rattle.links.proofs.Lists.{cut, each-cons, swapped, count-swapped, never, once, others-differ}

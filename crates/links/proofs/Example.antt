@@ -10,7 +10,7 @@ use native.Mathlib.Omega.{arith}
 use Rattle.interval.proofs.Laws.{inside}
 use Rattle.parts.specs.declared.Link.{Link}
 use Rattle.parts.specs.declared.Link.the-variants.{Unlinked, To}
-use Rattle.truth.proofs.TestLaws.{_∈_}
+use Rattle.predicates.proofs.TestLaws.{_∈_}
 use Rattle.links.specs.Walk.{after, walk, times, falls, Circuit, Predecessor}
 use Rattle.links.proofs.Ring.{here, there, in-nil, in-cons, Ring, With, Without}
 use Rattle.links.proofs.Lists.{each-nil, each-cons}

@@ -9,8 +9,8 @@ use native.Mathlib.Omega.{arith}
 use lib.ListN.{length, length-append}
 use lib.Dec.{eqb}
 use borrow.Author.Tests.{eq-eqb, ne-eqb, eqb-true, eqb-false}
-use Rattle.truth.specs.Tests.{count, any}
-use Rattle.truth.proofs.TestLaws.{_∈_, decided, bit-true, bit-false, some-in, none-in, count-append}
+use Rattle.predicates.specs.Tests.{count, any}
+use Rattle.predicates.proofs.TestLaws.{_∈_, decided, bit-true, bit-false, some-in, none-in, count-append}
 use Rattle.links.specs.Walk.{times}
 use Rattle.links.proofs.Ring.{here, there, in-nil, in-cons, in-part, in-left, in-right, Ascending}
 

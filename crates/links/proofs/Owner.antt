@@ -10,7 +10,7 @@ use lib.ListN.{length, length-append}
 use Rattle.interval.proofs.Laws.{Between, above, Within, within-self, within-split, within-apart}
 use Rattle.parts.specs.declared.Link.{Link}
 use Rattle.parts.specs.declared.Link.the-variants.{To}
-use Rattle.truth.proofs.TestLaws.{_∈_}
+use Rattle.predicates.proofs.TestLaws.{_∈_}
 use Rattle.links.specs.Walk.{after}
 use Rattle.links.proofs.Ring.{here, there, in-nil, in-one, in-cons, Ascending, Trail, Ring}
 use Rattle.links.proofs.Lists.{cut, each-cons, swapped}

@@ -7,8 +7,8 @@ use Prim.Native.Nat.{ℕ, _<_}
 use native.Mathlib.Omega.{arith}
 use lib.Dec.{eqb, ltb}
 use borrow.Author.Tests.{eqb-true, eqb-false, ltb-true, ltb-false}
-use Rattle.truth.proofs.Laws.{by-test}
-use Rattle.truth.proofs.TestLaws.{_∈_}
+use Rattle.predicates.proofs.Laws.{by-test}
+use Rattle.predicates.proofs.TestLaws.{_∈_}
 use Rattle.links.specs.Ring.{withMember, withoutMember}
 use Rattle.links.proofs.Ring.{here, there, in-nil, in-cons, Ascending}
 use Rattle.links.proofs.Lists.{Adds, adds-first, each-cons}

@@ -7,7 +7,7 @@ pub use mathlib.Core.List.{List·Memᴰ·head as here, List·Memᴰ·tail as the
 pub use mathlib.Core.List.{List·Memᴰ·not-nil as in-nil, List·Memᴰ·eq-of-singleton as in-one, List·Memᴰ·append-cases as in-part}
 pub use mathlib.Core.List.{Memᴰ·append-left as in-left, Memᴰ·append-right as in-right}
 use Prim.Native.Nat.{ℕ}
-use Rattle.truth.proofs.TestLaws.{_∈_}
+use Rattle.predicates.proofs.TestLaws.{_∈_}
 use Rattle.parts.specs.declared.Link.{Link}
 pub use Rattle.links.specs.Ring.{Ascending, first, Trail, Links, Ring}
 

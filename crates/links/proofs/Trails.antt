@@ -6,7 +6,7 @@ use Prim.Native.Nat.{ℕ}
 use lib.ListN.{length}
 use Rattle.parts.specs.declared.Link.{Link}
 use Rattle.parts.specs.declared.Link.the-variants.{To}
-use Rattle.truth.proofs.TestLaws.{_∈_}
+use Rattle.predicates.proofs.TestLaws.{_∈_}
 use Rattle.links.specs.Walk.{endOf, move, after, walk}
 use Rattle.links.proofs.Ring.{here, there, first, Trail, Links}
 

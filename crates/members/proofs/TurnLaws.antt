@@ -10,8 +10,8 @@ use lib.ListN.{getD, take}
 use lib.Pow.{shl-exact}
 use lib.Bits.{bitOr}
 use borrow.Author.Tests.{le-leb}
-use Rattle.truth.specs.Tests.{any, wordBelow}
-use Rattle.truth.proofs.WordLaws.{words-agree, word-with, word-without, word-or}
+use Rattle.predicates.specs.Tests.{any, wordBelow}
+use Rattle.predicates.proofs.WordLaws.{words-agree, word-with, word-without, word-or}
 use Rattle.parts.specs.declared.Message.{Message}
 use Rattle.node.specs.declared.Node.{Node}
 use Rattle.node.specs.Shape.{capacity}

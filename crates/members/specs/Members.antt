@@ -4,7 +4,7 @@ use Prim.Native.Nat.{ℕ}
 use mathlib.Core.Bool.{Bool}
 use lib.Count.{ones}
 use lib.ListN.{take}
-use Rattle.truth.specs.Tests.{any, wordBelow}
+use Rattle.predicates.specs.Tests.{any, wordBelow}
 use Rattle.refusal.specs.Rules.{Coded, done}
 use Rattle.protocol.specs.declared.Reply.{Reply}
 use Rattle.protocol.specs.declared.Reply.the-variants.{Inserted}

@@ -4,7 +4,7 @@
 ghost use mathlib.Core.Path.{_≡_};
 ghost use Prim.Native.Nat.{_≤_};
 ghost use lib.ListN.{take};
-ghost use Rattle.truth.specs.Tests.{any};
+ghost use Rattle.predicates.specs.Tests.{any};
 ghost use Rattle.protocol.specs.State.{isAckTo, isInserted};
 ghost use Rattle.protocol.specs.Answer.{answered};
 ghost use Rattle.members.specs.Members.{memberIn, wordOf, insertedIn};

@@ -155,7 +155,7 @@ fn planned(network: &Sheet, order: usize) -> Step {
     }
 }
 
-fn perform(network: &mut Sheet, order: usize) -> usize {
+fn execute(network: &mut Sheet, order: usize) -> usize {
     match order {
         BC | BN => declare(network, value(network, order)),
         DL => deliver(network, byte(network, 2)),
@@ -203,7 +203,7 @@ pub fn feed(network: &mut Sheet, next: usize) -> usize {
     if refusal > 0 {
         return refusal;
     }
-    perform(network, order(network))
+    execute(network, order(network))
 }
 
 // The answer where the script ends: a record that is under way is cut short.

@@ -9,9 +9,9 @@ use lib.ListN.{length, take, drop, replicate, length-drop, take-append-drop}
 use lib.Seq.{length-take-le, take-append-seam, drop-append-seam}
 use lib.Dec.{leb, eqb}
 use borrow.Author.Tests.{leb-true, le-leb, eqb-true}
-use Rattle.truth.specs.Tests.{every}
-use Rattle.truth.proofs.Laws.{both, true-is-not-false}
-use Rattle.truth.proofs.TestLaws.{holds, is-true}
+use Rattle.predicates.specs.Tests.{every}
+use Rattle.predicates.proofs.Laws.{both, true-is-not-false}
+use Rattle.predicates.proofs.TestLaws.{holds, is-true}
 use Rattle.sequence.specs.Sequence.{firstSeq, same}
 use Rattle.sequence.proofs.Laws.{same-iff}
 use Rattle.parts.specs.declared.Link.{Link}
@@ -26,7 +26,7 @@ use Rattle.node.specs.declared.Node.{Node}
 use Rattle.node.specs.Shape.{capacity}
 use Rattle.node.proofs.ActionLaws.{tested-out}
 use Rattle.protocol.specs.State.{State, queueLimit, wellFormed as listsAreWellFormed}
-use Rattle.protocol.proofs.Facts.{formed as lists-formed}
+use Rattle.protocol.proofs.Facts.{well-formed as lists-well-formed}
 use Rattle.network.specs.declared.Network.{Network}
 use Rattle.network.specs.Arrays.{vacantNode, vacantMessage, isVacantNode, isVacantMessage, live, wellFormed, filled, held}
 
@@ -101,7 +101,7 @@ live-held s = simp take-append-seam
 pub held-well-formed : (s : State) → listsAreWellFormed s ≡ true → wellFormed (held s) ≡ true
 unfolding wellFormed
 held-well-formed s h =
-    let w = lists-formed s h in
+    let w = lists-well-formed s h in
     let few = le-leb (length (s .nodes)) capacity (w .few-nodes) in
     let little = le-leb (length (s .messages)) queueLimit (w .few-messages) in
     let nodes = past-blank vacantNode isVacantNode capacity (s .nodes) node-is-vacant in
@@ -118,9 +118,9 @@ pub record WellFormed (n : Network) : Type 0 where
   pub vacant-messages : every isVacantMessage (drop (n .waiting) (n .messages)) ≡ true
   pub lists : listsAreWellFormed (live n) ≡ true
 
-pub formed : (n : Network) → wellFormed n ≡ true → WellFormed n
+pub well-formed : (n : Network) → wellFormed n ≡ true → WellFormed n
 unfolding wellFormed
-formed n h =
+well-formed n h =
     let (limits, a) = both (leb (n .count) capacity && leb (n .waiting) queueLimit) _ h in
     let (few, little) = both (leb (n .count) capacity) _ limits in
     let (vacant, lists) = both (every isVacantNode (drop (n .count) (n .nodes)) && every isVacantMessage (drop (n .waiting) (n .messages))) _ a in
@@ -129,7 +129,7 @@ formed n h =
 
 pub held-live : (n : Network) → length (n .nodes) ≡ capacity → length (n .messages) ≡ queueLimit → wellFormed n ≡ true → held (live n) ≡ n
 held-live n nodes messages h =
-    let w = formed n h in
+    let w = well-formed n h in
     λ i. record {
       nodes = refilled vacantNode isVacantNode vacant-node (n .nodes) capacity (n .count) nodes (w .few-nodes) (w .vacant-nodes) i;
       count = length-take-le (n .count) (n .nodes) (omega arith) i;

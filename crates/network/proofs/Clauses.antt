@@ -1,5 +1,5 @@
 -- The clauses of a network's well-formedness, as the code tests them: first the limits, then what stands in every place of the two arrays,
--- and then the keys and the dealings of the nodes, which the code has in arrays of their own. An allowance past the nodes declared is
+-- and then the keys and the exchanges of the nodes, which the code has in arrays of their own. An allowance past the nodes declared is
 -- never called on, since a message that fits concerns no such node. Assumes nothing.
 use mathlib.Core.Path.{_≡_, refl, sym, ap, _∙_}
 use mathlib.Core.Logic.{⊎-elim}
@@ -11,21 +11,21 @@ use lib.ListN.{length, getD, drop}
 use lib.Seq.{length-take-le, getD-take}
 use lib.Dec.{ltb, leb, eqb}
 use borrow.Author.Tests.{ltb-true, ltb-false, le-leb, lt-leb}
-use Rattle.truth.specs.Tests.{count, every, everyBelow}
-use Rattle.truth.proofs.Laws.{both, not-left, true-is-not-false}
-use Rattle.truth.proofs.TestLaws.{decided, every-in, all-pass, below-agree, below-both}
+use Rattle.predicates.specs.Tests.{count, every, everyBelow}
+use Rattle.predicates.proofs.Laws.{both, not-left, true-is-not-false}
+use Rattle.predicates.proofs.TestLaws.{decided, every-in, all-pass, below-agree, below-both}
 use Rattle.parts.specs.Shape.{messageFits}
 use Rattle.node.specs.declared.Node.{Node}
 use Rattle.node.specs.Shape.{nodeFits, capacity}
 use Rattle.node.proofs.FitLaws.{message-fits-more}
-use Rattle.protocol.specs.State.{queueLimit, keyIsNew, keyAt, isDealingOf, dealings, statusAt, nodeAt, wellFormed as listsAreWellFormed}
+use Rattle.protocol.specs.State.{queueLimit, keyIsNew, keyAt, isExchangeOf, exchanges, statusAt, nodeAt, wellFormed as listsAreWellFormed}
 use Rattle.protocol.proofs.Moves.{unconcerned}
 use Rattle.network.specs.declared.Network.{Network}
 use Rattle.network.specs.Arrays.{vacantNode, vacantMessage, isVacantNode, isVacantMessage, live, wellFormed}
 use Rattle.network.specs.Walks.{everyPlace}
 use Rattle.network.proofs.Lengths.{Lengths}
 use Rattle.network.proofs.Places.{every-element, every-place, below-fewer}
-use Rattle.network.proofs.Dealings.{withinAllowed}
+use Rattle.network.proofs.Exchanges.{withinAllowed}
 
 -- ---- the clauses
 abbrev pub nodePlacesFit : Network → Bool
@@ -37,8 +37,8 @@ messagePlacesFit n = everyPlace (messageFits (n .count)) isVacantMessage vacantM
 abbrev pub keysDiffer : Network → Bool
 keysDiffer n = everyBelow (n .count) (keyIsNew (live n))
 
-abbrev pub dealingsFit : Network → Bool
-dealingsFit n = everyBelow (n .count) (λ u. leb (count (isDealingOf u) (live n .messages)) (dealings (statusAt (live n) u)))
+abbrev pub exchangesFit : Network → Bool
+exchangesFit n = everyBelow (n .count) (λ u. leb (count (isExchangeOf u) (live n .messages)) (exchanges (statusAt (live n) u)))
 
 -- ---- the limits
 abbrev pub pastLimits : Network → Bool
@@ -81,11 +81,11 @@ module _ (n : Network) (sizes : Lengths n) (few : n .count ≤ capacity) (little
   waiting : length (live n .messages) ≡ n .waiting
   waiting = length-take-le (n .waiting) (n .messages) (omega arith)
 
-  lists-tested : listsAreWellFormed (live n) ≡ ((every (nodeFits (n .count)) (live n .nodes) && (keysDiffer n && dealingsFit n)) && every (messageFits (n .count)) (live n .messages))
+  lists-tested : listsAreWellFormed (live n) ≡ ((every (nodeFits (n .count)) (live n .nodes) && (keysDiffer n && exchangesFit n)) && every (messageFits (n .count)) (live n .messages))
   unfolding listsAreWellFormed
   lists-tested =
       let all = length (live n .nodes) in
-      let clauses = three-clauses all (λ u. nodeFits all (nodeAt (live n) u)) (keyIsNew (live n)) (λ u. leb (count (isDealingOf u) (live n .messages)) (dealings (statusAt (live n) u))) in
+      let clauses = three-clauses all (λ u. nodeFits all (nodeAt (live n) u)) (keyIsNew (live n)) (λ u. leb (count (isExchangeOf u) (live n .messages)) (exchanges (statusAt (live n) u))) in
       rw (clauses, every-element (nodeFits all) vacantNode (live n .nodes), declared, waiting, le-leb (n .count) capacity few, le-leb (n .waiting) queueLimit little)
 
   node-places : nodePlacesFit n ≡ (every (nodeFits (n .count)) (live n .nodes) && every isVacantNode (drop (n .count) (n .nodes)))
@@ -94,11 +94,11 @@ module _ (n : Network) (sizes : Lengths n) (few : n .count ≤ capacity) (little
   message-places : messagePlacesFit n ≡ (every (messageFits (n .count)) (live n .messages) && every isVacantMessage (drop (n .waiting) (n .messages)))
   message-places = every-place (messageFits (n .count)) isVacantMessage vacantMessage (n .messages) (n .waiting) (omega arith)
 
-  pub well-formed-tested : wellFormed n ≡ ((nodePlacesFit n && messagePlacesFit n) && (keysDiffer n && dealingsFit n))
+  pub well-formed-tested : wellFormed n ≡ ((nodePlacesFit n && messagePlacesFit n) && (keysDiffer n && exchangesFit n))
   unfolding wellFormed
   well-formed-tested =
       rw (node-places, message-places, lists-tested, le-leb (n .count) capacity few, le-leb (n .waiting) queueLimit little)
-      (regrouped (every (nodeFits (n .count)) (live n .nodes)) (every (messageFits (n .count)) (live n .messages)) (every isVacantNode (drop (n .count) (n .nodes))) (every isVacantMessage (drop (n .waiting) (n .messages))) (keysDiffer n && dealingsFit n))
+      (regrouped (every (nodeFits (n .count)) (live n .nodes)) (every (messageFits (n .count)) (live n .messages)) (every isVacantNode (drop (n .count) (n .nodes))) (every isVacantMessage (drop (n .waiting) (n .messages))) (keysDiffer n && exchangesFit n))
 
   -- the keys, in an array
   pub keys-tested : (keys : List ℕ) → ((u : ℕ) → u < capacity → getD keys u 0 ≡ getD (n .nodes) u vacantNode .key)
@@ -108,7 +108,7 @@ module _ (n : Network) (sizes : Lengths n) (few : n .count ≤ capacity) (little
       key : (u : ℕ) → u < n .count → getD keys u 0 ≡ keyAt (live n) u
       key u k = same u (omega arith) ∙ ap (λ (x : Node). x .key) (sym (getD-take (n .count) (n .nodes) u vacantNode k))
 
-  -- the dealings, by allowances in an array
+  -- the exchanges, by allowances in an array
   module _ (fit : messagePlacesFit n ≡ true) where
     waiting-fit : every (messageFits (n .count)) (live n .messages) ≡ true
     waiting-fit = both (every (messageFits (n .count)) (live n .messages)) _ (sym message-places ∙ fit) .0
@@ -116,17 +116,17 @@ module _ (n : Network) (sizes : Lengths n) (few : n .count ≤ capacity) (little
     pub waiting-fit-limit : every (messageFits capacity) (live n .messages) ≡ true
     waiting-fit-limit = all-pass (messageFits capacity) (live n .messages) (λ m i. message-fits-more few m (every-in (messageFits (n .count)) waiting-fit i))
 
-    pub dealings-tested : (allowed : List ℕ) → length allowed ≡ capacity → ((u : ℕ) → u < capacity → getD allowed u 0 ≡ dealings (getD (n .nodes) u vacantNode .status))
-        → withinAllowed (n .messages) allowed (n .waiting) ≡ dealingsFit n
-    dealings-tested allowed size same =
-        below-fewer _ (n .count) (length allowed) (omega arith) (λ u k j. le-leb (dealt u) (getD allowed u 0) (omega (arith, none u k)))
-        ∙ below-agree (n .count) _ _ (λ u k. ap (leb (dealt u)) (allowance u k))
+    pub exchanges-tested : (allowed : List ℕ) → length allowed ≡ capacity → ((u : ℕ) → u < capacity → getD allowed u 0 ≡ exchanges (getD (n .nodes) u vacantNode .status))
+        → withinAllowed (n .messages) allowed (n .waiting) ≡ exchangesFit n
+    exchanges-tested allowed size same =
+        below-fewer _ (n .count) (length allowed) (omega arith) (λ u k j. le-leb (limited u) (getD allowed u 0) (omega (arith, none u k)))
+        ∙ below-agree (n .count) _ _ (λ u k. ap (leb (limited u)) (allowance u k))
       where
-        dealt : ℕ → ℕ
-        dealt u = count (isDealingOf u) (live n .messages)
+        limited : ℕ → ℕ
+        limited u = count (isExchangeOf u) (live n .messages)
 
-        none : (u : ℕ) → n .count ≤ u → dealt u ≡ 0
+        none : (u : ℕ) → n .count ≤ u → limited u ≡ 0
         none u k = unconcerned (n .count) u k (live n .messages) (λ m i. every-in (messageFits (n .count)) waiting-fit i)
 
-        allowance : (u : ℕ) → u < n .count → getD allowed u 0 ≡ dealings (statusAt (live n) u)
-        allowance u k = same u (omega arith) ∙ ap (λ (x : Node). dealings (x .status)) (sym (getD-take (n .count) (n .nodes) u vacantNode k))
+        allowance : (u : ℕ) → u < n .count → getD allowed u 0 ≡ exchanges (statusAt (live n) u)
+        allowance u k = same u (omega arith) ∙ ap (λ (x : Node). exchanges (x .status)) (sym (getD-take (n .count) (n .nodes) u vacantNode k))

@@ -1,7 +1,7 @@
 pub mod Lengths
 pub mod ArrayLaws
 pub mod Places
-pub mod Dealings
+pub mod Exchanges
 pub mod Clauses
 pub mod LiveLaws
 pub mod Walking

@@ -10,30 +10,30 @@ use borrow.Author.Tests.{ltb-true}
 use Rattle.parts.specs.declared.Link.the-variants.{To}
 use Rattle.node.specs.declared.Node.{Node}
 use Rattle.protocol.specs.State.{nodeAt, rightAt}
-use Rattle.protocol.proofs.Facts.{WellFormed as ListsWellFormed, formed as lists-formed}
+use Rattle.protocol.proofs.Facts.{WellFormed as ListsWellFormed, well-formed as lists-well-formed}
 use Rattle.network.specs.declared.Network.{Network}
 use Rattle.network.specs.Arrays.{vacantNode, live, wellFormed}
 use Rattle.network.proofs.Lengths.{Lengths}
-use Rattle.network.proofs.ArrayLaws.{formed}
+use Rattle.network.proofs.ArrayLaws.{well-formed}
 use Rattle.network.proofs.Places.{same-element}
 
 -- ---- the lists of a well-formed network
 module _ (n : Network) (l : Lengths n) (h : wellFormed n ≡ true) where
   -- as long as the counts say
   pub nodes-length : length (live n .nodes) ≡ n .count
-  nodes-length = let w = formed n h in length-take-le (n .count) (n .nodes) (omega arith)
+  nodes-length = let w = well-formed n h in length-take-le (n .count) (n .nodes) (omega arith)
 
   pub messages-length : length (live n .messages) ≡ n .waiting
-  messages-length = let w = formed n h in length-take-le (n .waiting) (n .messages) (omega arith)
+  messages-length = let w = well-formed n h in length-take-le (n .waiting) (n .messages) (omega arith)
 
   -- the node of a number is the one in its place
   pub node-live : (u : ℕ) (d : Node) → u < n .count → nodeAt (live n) u ≡ getD (n .nodes) u d
   node-live u d k =
-      let w = formed n h in
+      let w = well-formed n h in
       getD-take (n .count) (n .nodes) u vacantNode k ∙ same-element (n .nodes) u vacantNode d (omega arith)
 
   lists : ListsWellFormed (live n)
-  lists = lists-formed (live n) (formed n h .lists)
+  lists = lists-well-formed (live n) (well-formed n h .lists)
 
   -- a right link names a node that is declared
   pub right-declared : (u q : ℕ) (d : Node) → u < n .count → getD (n .nodes) u d .right ≡ To q → q < n .count

@@ -10,8 +10,8 @@ use native.Mathlib.Omega.{arith}
 use lib.ListN.{length, getD, set, take, drop, length-drop}
 use lib.Seq.{take-length, take-take, getD-drop, getD-set-same, getD-set-other}
 use borrow.Author.Tests.{lt-ltb, le-ltb}
-use Rattle.truth.specs.Tests.{count, every, everyBelow}
-use Rattle.truth.proofs.TestLaws.{every-take, count-more, below-at, below-all, below-agree}
+use Rattle.predicates.specs.Tests.{count, every, everyBelow}
+use Rattle.predicates.proofs.TestLaws.{every-take, count-more, below-at, below-all, below-agree}
 use Rattle.parts.specs.declared.Kind.the-variants.{SetR}
 use Rattle.parts.specs.declared.Message.{Message}
 use Rattle.network.specs.Walks.{placeFits, everyPlace}

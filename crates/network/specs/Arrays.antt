@@ -5,7 +5,7 @@ use mathlib.Core.Bool.{Bool, not, _&&_}
 use mathlib.Core.List.{List, _++_}
 use lib.ListN.{length, take, drop, replicate}
 use lib.Dec.{leb, eqb}
-use Rattle.truth.specs.Tests.{every}
+use Rattle.predicates.specs.Tests.{every}
 use Rattle.sequence.specs.Sequence.{firstSeq, same}
 use Rattle.parts.specs.declared.Message.{Message}
 use Rattle.parts.specs.Tests.{isOut, linked, numbered, isNak}

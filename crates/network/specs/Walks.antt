@@ -1,11 +1,11 @@
--- No rules stand here: it is what the walks of the well-formedness test compute, a test of every place of an array, and whose dealing a
+-- No rules stand here: it is what the walks of the well-formedness test compute, a test of every place of an array, and whose exchange a
 -- message is. That they come to the clauses of well-formedness is proved in `proofs/`. Definitions only.
 use Prim.Native.Nat.{ℕ}
 use mathlib.Core.List.{List}
 use mathlib.Core.Bool.{Bool, cond}
 use lib.ListN.{length, getD}
 use lib.Dec.{ltb}
-use Rattle.truth.specs.Tests.{everyBelow}
+use Rattle.predicates.specs.Tests.{everyBelow}
 use Rattle.parts.specs.declared.Link.{Link}
 use Rattle.parts.specs.declared.Link.the-variants.{Unlinked, To}
 use Rattle.parts.specs.declared.Kind.{Kind}
@@ -19,9 +19,9 @@ placeFits fits vacant blank l n i = cond (ltb i n) (fits (getD l i blank)) (vaca
 abbrev pub everyPlace : {A : Type 0} → (A → Bool) → (A → Bool) → A → List A → ℕ → Bool
 everyPlace fits vacant blank l n = everyBelow (length l) (placeFits fits vacant blank l n)
 
--- whose dealing a message is, "SetR from it or answer to it"
-abbrev pub dealerBy : Kind → Message → Link
-dealerBy (SetR new expected number) m = To (m .sender)
-dealerBy (SetRAck number) m = To (m .to)
-dealerBy SetRNak m = To (m .to)
-dealerBy (SetL left number) m = Unlinked
+-- whose exchange a message is, "SetR from it or answer to it"
+abbrev pub partyBy : Kind → Message → Link
+partyBy (SetR new expected number) m = To (m .sender)
+partyBy (SetRAck number) m = To (m .to)
+partyBy SetRNak m = To (m .to)
+partyBy (SetL left number) m = Unlinked

@@ -4,12 +4,12 @@ ghost use mathlib.Core.Bool.{true, not, cond};
 ghost use Prim.Native.Nat.{ℕ, _<_, _≤_};
 ghost use lib.ListN.{length, getD, take};
 ghost use lib.Dec.{leb, eqb};
-ghost use Rattle.truth.specs.Tests.{count, every, everyBelow};
+ghost use Rattle.predicates.specs.Tests.{count, every, everyBelow};
 ghost use Rattle.parts.specs.Shape.{messageFits};
 ghost use Rattle.node.specs.Shape.{nodeFits};
-ghost use Rattle.protocol.specs.State.{isDealingOf, dealings};
+ghost use Rattle.protocol.specs.State.{isExchangeOf, exchanges};
 ghost use Rattle.network.specs.Arrays.{vacantNode, vacantMessage, isVacantNode, isVacantMessage, wellFormed};
-ghost use Rattle.network.specs.Walks.{everyPlace, dealerBy};
+ghost use Rattle.network.specs.Walks.{everyPlace, partyBy};
 use crate::CAPACITY;
 use crate::Network;
 use crate::QUEUE_LIMIT;
@@ -127,8 +127,8 @@ fn keys_differ(keys: &[u32; 32], n: usize) -> bool
     ok
 }
 
-fn dealings_of(status: Status) -> u8
-    ensures { λ r. ⌜ r ≡ dealings status ⌝ }
+fn exchanges_of(status: Status) -> u8
+    ensures { λ r. ⌜ r ≡ exchanges status ⌝ }
 {
     match status {
         Status::Out => 0,
@@ -138,24 +138,24 @@ fn dealings_of(status: Status) -> u8
     }
 }
 
-// How many dealings each node may have.
+// How many exchanges each node may have.
 fn allowances(nodes: [Node; 32]) -> [u8; 32]
-    ensures { λ r. ⌜ ((u : ℕ) → u < 32 → getD r u 0 ≡ dealings (getD nodes u vacantNode .status)) ⌝ }
+    ensures { λ r. ⌜ ((u : ℕ) → u < 32 → getD r u 0 ≡ exchanges (getD nodes u vacantNode .status)) ⌝ }
 {
     let mut allowed = [0u8; 32];
     let mut i: usize = 0;
     while i < 32 {
         let node = nodes[i];
         let status = node.status;
-        allowed[i] = dealings_of(status);
+        allowed[i] = exchanges_of(status);
         i += 1;
     }
     allowed
 }
 
-// Whose dealing a message is: the sender's of a request, the addressee's of an answer, and nobody's of a notice.
-fn dealer(message: Message) -> Link
-    ensures { λ r. ⌜ r ≡ dealerBy (message .kind) message ⌝ }
+// Whose exchange a message is: the sender's of a request, the addressee's of an answer, and nobody's of a notice.
+fn party(message: Message) -> Link
+    ensures { λ r. ⌜ r ≡ partyBy (message .kind) message ⌝ }
 {
     let kind = message.kind;
     match kind {
@@ -170,16 +170,16 @@ fn dealer(message: Message) -> Link
     }
 }
 
-// Whether no node has more dealings than it may have. Each message takes one off its dealer's allowance.
-fn dealings_fit(messages: [Message; 64], waiting: usize, allowed: [u8; 32]) -> bool
+// Whether no node has more exchanges than it may have. Each message takes one off its party's allowance.
+fn exchanges_fit(messages: [Message; 64], waiting: usize, allowed: [u8; 32]) -> bool
     requires { ⌜ (waiting ≤ 64) × (every (messageFits 32) (take waiting messages) ≡ true) ⌝ }
-    ensures { λ r. ⌜ r ≡ everyBelow (length allowed) (λ u. leb (count (isDealingOf u) (take waiting messages)) (getD allowed u 0)) ⌝ }
+    ensures { λ r. ⌜ r ≡ everyBelow (length allowed) (λ u. leb (count (isExchangeOf u) (take waiting messages)) (getD allowed u 0)) ⌝ }
 {
     let mut left = allowed;
     let mut i: usize = 0;
     while i < waiting {
         let message = messages[i];
-        let whose = dealer(message);
+        let whose = party(message);
         if let Link::To(u) = whose {
             let at = u as usize;
             let allowance = left[at];
@@ -210,6 +210,6 @@ impl Network {
             return false;
         }
         let keys = keys_of(nodes);
-        keys_differ(&keys, declared) & dealings_fit(messages, waiting, allowances(nodes))
+        keys_differ(&keys, declared) & exchanges_fit(messages, waiting, allowances(nodes))
     }
 }

@@ -5,7 +5,7 @@ use mathlib.Core.Bool.{true, false, not, _&&_}
 use Prim.Native.Nat.{ℕ}
 use lib.Dec.{eqb}
 use borrow.Author.Tests.{eqb-true, eq-eqb, ne-eqb}
-use Rattle.truth.proofs.Laws.{true-is-not-false, both}
+use Rattle.predicates.proofs.Laws.{true-is-not-false, both}
 use Rattle.refusal.proofs.Laws.{Cleared}
 use Rattle.sequence.specs.Sequence.{nextSeq, hasNext, cappedNext}
 use Rattle.sequence.proofs.Laws.{capped-next}
@@ -19,7 +19,7 @@ use Rattle.node.specs.declared.Node.{Node}
 use Rattle.node.specs.declared.Peer.{Peer}
 use Rattle.node.specs.declared.Outcome.the-variants.{Created, Waiting, LeftAlone}
 use Rattle.node.specs.Shape.{wellFormed, peerFits}
-use Rattle.node.specs.Actions.{setR, setRAck, setL, withStatus, quiet, posting, createRules, created, createOf, joinRules, joining, joinFormed, joinOf, alone, leaveRules, leaveFormed, leaveRequest, leaveOf, grants, relinked, granting, onSetR, actOf, receiveRules, receiveOf}
+use Rattle.node.specs.Actions.{setR, setRAck, setL, withStatus, quiet, posting, createRules, created, createOf, joinRules, joining, joinUnchecked, joinOf, alone, leaveRules, leaveUnchecked, leaveRequest, leaveOf, grants, relinked, granting, onSetR, actOf, receiveRules, receiveOf}
 
 -- ---- what the tests say
 pub tested-out : (s : Status) → isOut s ≡ true → s ≡ Out
@@ -53,8 +53,8 @@ granted p v new expected h =
 
 -- ---- a leave that asks: the capped number is the next one
 pub leave-asks : (me : ℕ) (u : Node) → isIn (u .status) ≡ true → alone me u ≡ false → hasNext (seqOf (u .rseq)) ≡ true
-    → posting (withStatus Del u) (leaveRequest me u (cappedNext (seqOf (u .rseq)))) Waiting ≡ leaveFormed me u
-unfolding leaveFormed
+    → posting (withStatus Del u) (leaveRequest me u (cappedNext (seqOf (u .rseq)))) Waiting ≡ leaveUnchecked me u
+unfolding leaveUnchecked
 leave-asks me u inside e room = rw (inside, e, room, capped-next (seqOf (u .rseq)) room)
 
 -- ---- what a step does that no rule of its own refuses, with each message spelled out
@@ -84,12 +84,12 @@ module _ (me : ℕ) (u : Node) where
 
 -- ---- past the test of shape a step is the tested one
 module _ (me : ℕ) (u : Node) where
-  pub join-tested : (p q : Peer) → not (wellFormed me u && (peerFits p && peerFits q)) ≡ false → joinFormed me u p q ≡ joinOf me u p q
-  unfolding joinOf joinFormed
+  pub join-tested : (p q : Peer) → not (wellFormed me u && (peerFits p && peerFits q)) ≡ false → joinUnchecked me u p q ≡ joinOf me u p q
+  unfolding joinOf joinUnchecked
   join-tested p q sound = rw sound
 
-  pub leave-tested : not (wellFormed me u) ≡ false → leaveFormed me u ≡ leaveOf me u
-  unfolding leaveOf leaveFormed
+  pub leave-tested : not (wellFormed me u) ≡ false → leaveUnchecked me u ≡ leaveOf me u
+  unfolding leaveOf leaveUnchecked
   leave-tested sound = rw sound
 
 -- ---- what a granted request comes to: the notice is for the node that has a new left neighbour

@@ -9,9 +9,9 @@ use Prim.Native.Nat.{ℕ, _≤_, _<_}
 use native.Mathlib.Omega.{arith}
 use lib.Dec.{ltb, eqb}
 use borrow.Author.Tests.{ltb-true, lt-ltb, eq-eqb, not-false}
-use Rattle.truth.proofs.Laws.{both, or-right, not-left, true-is-not-false}
+use Rattle.predicates.proofs.Laws.{both, or-right, not-left, true-is-not-false}
 use Rattle.refusal.specs.Code.{Reason}
-use Rattle.refusal.specs.Rules.{first, settled}
+use Rattle.refusal.specs.Rules.{first, unlessRefused}
 use Rattle.refusal.proofs.Laws.{cleared}
 use Rattle.serial.specs.Serial.{inRange}
 use Rattle.sequence.specs.Sequence.{nextSeq, newer}
@@ -81,9 +81,9 @@ pub record EffectFits (count : ℕ) (e : Effect) : Type 0 where
   pub node : NodeFits count (e .node)
   pub posts : PostsFit count (e .posts)
 
-settled-fits : {count : ℕ} {u : Node} → NodeFits count u → (o : Option Reason) (accepted : Effect) → (o ≡ none → EffectFits count accepted) → EffectFits count (settled o (refused u) accepted)
-settled-fits f none accepted g = g refl
-settled-fits f (some n) accepted g = record { node = f; posts = tt }
+ruled-fits : {count : ℕ} {u : Node} → NodeFits count u → (o : Option Reason) (accepted : Effect) → (o ≡ none → EffectFits count accepted) → EffectFits count (unlessRefused o (refused u) accepted)
+ruled-fits f none accepted g = g refl
+ruled-fits f (some n) accepted g = record { node = f; posts = tt }
 
 cond-fits : {count : ℕ} (b : Bool) (x y : Effect) → (b ≡ true → EffectFits count x) → (b ≡ false → EffectFits count y) → EffectFits count (cond b x y)
 cond-fits true x y f g = f refl
@@ -150,21 +150,21 @@ module _ {count : ℕ} {u : Node} (f : NodeFits count u) where
 module _ (count me : ℕ) (me-in : ltb me count ≡ true) (u : Node) (f : NodeFits count u) where
   pub create-fits : EffectFits count (createOf me u)
   unfolding createOf
-  create-fits = settled-fits f (first (createRules me u)) (creating me u) (λ clear. record {
+  create-fits = ruled-fits f (first (createRules me u)) (creating me u) (λ clear. record {
     node = created-fits f me me-in;
     posts = tt;
   })
 
   pub join-fits : (p q : Peer) → ltb (p .number) count ≡ true → ltb (q .number) count ≡ true → EffectFits count (joinOf me u p q)
   unfolding joinOf
-  join-fits p q hp hq = settled-fits f (first (joinRules me u p q)) (asking me u p q) (λ clear. record {
+  join-fits p q hp hq = ruled-fits f (first (joinRules me u p q)) (asking me u p q) (λ clear. record {
     node = joining-fits f p q hp hq;
     posts = (message-fits count _ me-in hp (simp (me-in, hq)), tt);
   })
 
   pub leave-fits : EffectFits count (leaveOf me u)
   unfolding leaveOf
-  leave-fits = settled-fits f (first (leaveRules me u)) (leaving me u) (λ clear. cond-fits (alone me u) _ _ (λ _. record { node = out-fits f; posts = tt }) (λ _. by-request (is-in clear)))
+  leave-fits = ruled-fits f (first (leaveRules me u)) (leaving me u) (λ clear. cond-fits (alone me u) _ _ (λ _. record { node = out-fits f; posts = tt }) (λ _. by-request (is-in clear)))
     where
       is-in : first (leaveRules me u) ≡ none → isIn (u .status) ≡ true
       is-in clear = let (_, (inside, _)) = cleared (leaveRules me u) clear in not-false (isIn (u .status)) inside
@@ -221,7 +221,7 @@ module _ (count me : ℕ) (me-in : ltb me count ≡ true) (u : Node) (f : NodeFi
   unfolding receiveOf
   receive-fits m h =
       let facts = message-facts count m h in
-      settled-fits f (first (receiveRules me u m)) (actOf me u (m .sender) (m .kind)) (λ clear. cond-fits (isOut (u .status)) _ _ (λ _. quiet-fits f Dropped) (λ _. kind-fits (m .sender) (facts .sender) (m .kind) (facts .kind)))
+      ruled-fits f (first (receiveRules me u m)) (actOf me u (m .sender) (m .kind)) (λ clear. cond-fits (isOut (u .status)) _ _ (λ _. quiet-fits f Dropped) (λ _. kind-fits (m .sender) (facts .sender) (m .kind) (facts .kind)))
 
 -- ---- what a node that fits has: its links unless it is out, its right number while it is in or del
 link-named : (l : Link) → linked l ≡ true → l ≡ To (target l)

@@ -111,8 +111,8 @@ abbrev pub asking : ℕ → Node → Peer → Peer → Effect
 asking me u p q = posting (joining u p q) (joinRequest me u p q) Waiting
 
 -- past the test of node and neighbours; and with it
-unfoldable pub joinFormed : ℕ → Node → Peer → Peer → Effect
-joinFormed me u p q = ruled (joinOwnRules u p q) (refused u) (asking me u p q)
+unfoldable pub joinUnchecked : ℕ → Node → Peer → Peer → Effect
+joinUnchecked me u p q = ruled (joinOwnRules u p q) (refused u) (asking me u p q)
 
 unfoldable pub joinOf : ℕ → Node → Peer → Peer → Effect
 joinOf me u p q = ruled (joinRules me u p q) (refused u) (asking me u p q)
@@ -138,8 +138,8 @@ leaving me u =
     (posting (withStatus Del u) (leaveRequest me u (nextSeq (seqOf (u .rseq)))) Waiting)
 
 -- past the test of the node; and with it
-unfoldable pub leaveFormed : ℕ → Node → Effect
-leaveFormed me u = ruled (leaveOwnRules me u) (refused u) (leaving me u)
+unfoldable pub leaveUnchecked : ℕ → Node → Effect
+leaveUnchecked me u = ruled (leaveOwnRules me u) (refused u) (leaving me u)
 
 unfoldable pub leaveOf : ℕ → Node → Effect
 leaveOf me u = ruled (leaveRules me u) (refused u) (leaving me u)

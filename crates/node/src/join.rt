@@ -1,6 +1,6 @@
 // Join: a node asks the node on its left to let it in.
 ghost use mathlib.Core.Path.{_≡_};
-ghost use Rattle.node.specs.Actions.{effect, joinFormed, joinOf};
+ghost use Rattle.node.specs.Actions.{effect, joinUnchecked, joinOf};
 use crate::Node;
 use crate::Outcome;
 use crate::Peer;
@@ -15,8 +15,8 @@ use refusal::Refusal;
 
 impl Node {
     // A join with no test of node or neighbours.
-    pub fn join_formed(self, me: u8, left: Peer, right: Peer) -> Step
-        ensures { λ r. ⌜ effect r ≡ joinFormed me self left right ⌝ }
+    pub fn join_unchecked(self, me: u8, left: Peer, right: Peer) -> Step
+        ensures { λ r. ⌜ effect r ≡ joinUnchecked me self left right ⌝ }
     {
         let status = self.status;
         if !status.is_out() {
@@ -49,6 +49,6 @@ impl Node {
         if !(shape::is_well_formed(self, me) & (shape::peer_fits(left) & shape::peer_fits(right))) {
             return steps::refuse(self, Refusal::Malformed);
         }
-        self.join_formed(me, left, right)
+        self.join_unchecked(me, left, right)
     }
 }

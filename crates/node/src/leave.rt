@@ -1,6 +1,6 @@
 // Leave: a node asks the node on its left to pass it over, or goes at once where it is alone.
 ghost use mathlib.Core.Path.{_≡_};
-ghost use Rattle.node.specs.Actions.{effect, leaveFormed, leaveOf};
+ghost use Rattle.node.specs.Actions.{effect, leaveUnchecked, leaveOf};
 use crate::Node;
 use crate::Outcome;
 use crate::Step;
@@ -13,8 +13,8 @@ use refusal::Refusal;
 
 impl Node {
     // A leave with no test of the node.
-    pub fn leave_formed(self, me: u8) -> Step
-        ensures { λ r. ⌜ effect r ≡ leaveFormed me self ⌝ }
+    pub fn leave_unchecked(self, me: u8) -> Step
+        ensures { λ r. ⌜ effect r ≡ leaveUnchecked me self ⌝ }
     {
         let status = self.status;
         let left = self.left;
@@ -56,6 +56,6 @@ impl Node {
         if !shape::is_well_formed(self, me) {
             return steps::refuse(self, Refusal::Malformed);
         }
-        self.leave_formed(me)
+        self.leave_unchecked(me)
     }
 }

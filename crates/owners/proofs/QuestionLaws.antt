@@ -6,7 +6,7 @@ use mathlib.Core.Bool.{true, false, cond}
 use Prim.Native.Nat.{ℕ, _≤_, _<_}
 use lib.Dec.{ltb}
 use borrow.Author.Tests.{ltb-true, ltb-false, lt-ltb, le-ltb}
-use Rattle.truth.proofs.TestLaws.{decided}
+use Rattle.predicates.proofs.TestLaws.{decided}
 use Rattle.refusal.specs.Code.{plain}
 use Rattle.refusal.specs.Rules.{no as refusal}
 use Rattle.serial.specs.Serial.{inRange}
@@ -15,7 +15,7 @@ use Rattle.protocol.specs.Questions.{walked, ownerOf}
 use Rattle.network.specs.declared.Network.{Network}
 use Rattle.network.specs.Arrays.{live, wellFormed}
 use Rattle.network.proofs.Lengths.{Lengths}
-use Rattle.network.proofs.ArrayLaws.{formed}
+use Rattle.network.proofs.ArrayLaws.{well-formed}
 use Rattle.network.proofs.LiveLaws.{nodes-length}
 use Rattle.members.specs.Members.{memberIn}
 use Rattle.members.proofs.MemberLaws.{member-live}
@@ -26,7 +26,7 @@ module _ (n : Network) (l : Lengths n) (h : wellFormed n ≡ true) where
   module _ (start serial : ℕ) where
     pub start-undeclared : n .count ≤ start → ownerOf (live n) start serial ≡ refusal (plain 5)
     unfolding ownerOf
-    start-undeclared k = rw (formed n h .lists, nodes-length n l h, le-ltb start (n .count) k)
+    start-undeclared k = rw (well-formed n h .lists, nodes-length n l h, le-ltb start (n .count) k)
 
     module _ (k : start < n .count) where
       declared-start : declared (live n) start ≡ true
@@ -34,15 +34,15 @@ module _ (n : Network) (l : Lengths n) (h : wellFormed n ≡ true) where
 
       pub serial-too-large : inRange serial ≡ false → ownerOf (live n) start serial ≡ refusal (plain 4)
       unfolding ownerOf
-      serial-too-large e = rw (formed n h .lists, declared-start, e)
+      serial-too-large e = rw (well-formed n h .lists, declared-start, e)
 
       pub start-not-inserted : inRange serial ≡ true → memberIn n start ≡ false → ownerOf (live n) start serial ≡ refusal (plain 30)
       unfolding ownerOf
-      start-not-inserted e f = rw (formed n h .lists, declared-start, e, sym (member-live n l h start k) ∙ f)
+      start-not-inserted e f = rw (well-formed n h .lists, declared-start, e, sym (member-live n l h start k) ∙ f)
 
       pub owner-walked : inRange serial ≡ true → memberIn n start ≡ true → ownerOf (live n) start serial ≡ walked (walkFrom n serial (n .count) start 0)
       unfolding ownerOf
-      owner-walked e f = rw (formed n h .lists, declared-start, e, sym (member-live n l h start k) ∙ f) (ap walked (sym (walk-live n l h serial start k)))
+      owner-walked e f = rw (well-formed n h .lists, declared-start, e, sym (member-live n l h start k) ∙ f) (ap walked (sym (walk-live n l h serial start k)))
 
     -- what the tests come to is what the rules say of the lists
     pub owner-live : ownerIn n start serial ≡ ownerOf (live n) start serial

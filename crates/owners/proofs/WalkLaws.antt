@@ -13,7 +13,7 @@ use Rattle.protocol.specs.Questions.{Walk, found, ownerAt, ownerFrom}
 use Rattle.network.specs.declared.Network.{Network}
 use Rattle.network.specs.Arrays.{vacantNode, live, wellFormed}
 use Rattle.network.proofs.Lengths.{Lengths}
-use Rattle.network.proofs.ArrayLaws.{formed}
+use Rattle.network.proofs.ArrayLaws.{well-formed}
 use Rattle.network.proofs.LiveLaws.{nodes-length, right-declared}
 use Rattle.access.specs.Sights.{nodeIn}
 use Rattle.members.proofs.TurnLaws.{node-within}
@@ -26,7 +26,7 @@ module _ (n : Network) (l : Lengths n) (h : wellFormed n ≡ true) where
       → walkAt n serial u hops link f ≡ ownerAt (live n) serial u hops link g
   walk-at serial u hops Unlinked f g k e same = refl
   walk-at serial u hops (To q) f g k e same =
-      let w = formed n h in
+      let w = well-formed n h in
       let named : getD (n .nodes) u vacantNode .right ≡ To q = ap (λ (node : Node). node .right) (sym (node-within n u (omega arith))) ∙ e in
       let there = right-declared n l h u q vacantNode k named in
       λ i. cond (within (read-live n l h u k i .key) (read-live n l h q there i .key) serial) (found u hops) (same q there i)

@@ -10,7 +10,7 @@ use lib.ListN.{length, take, length-append}
 use lib.Seq.{paste, take-paste, take-length, length-paste}
 use lib.Dec.{ltb, leb}
 use borrow.Author.Tests.{le-leb, lt-leb, leb-true, ltb-true, ltb-false}
-use Rattle.truth.proofs.Laws.{by-test}
+use Rattle.predicates.proofs.Laws.{by-test}
 use Rattle.refusal.specs.Code.{plain}
 use Rattle.refusal.specs.Rules.{Coded, done, no}
 use Rattle.text.specs.Text.{ascii, decimal, Put}

@@ -8,34 +8,34 @@ use Prim.Native.Nat.{ℕ}
 use native.Mathlib.Decide.{ℕ-discrete}
 use borrow.Author.Tests.{eq-eqb, ne-eqb}
 use Rattle.sequence.specs.Sequence.{Number}
-use Rattle.truth.proofs.TestLaws.{_∈_, not-both, any-in}
+use Rattle.predicates.proofs.TestLaws.{_∈_, not-both, any-in}
 use Rattle.parts.specs.declared.Status.{Status}
 use Rattle.parts.specs.declared.Status.the-variants.{Out, Ins, In, Del}
 use Rattle.parts.specs.declared.Seq.the-variants.{Is}
 use Rattle.parts.specs.declared.Message.{Message}
 use Rattle.node.specs.declared.Node.{Node}
 use Rattle.node.specs.Actions.{setR, setRAck, setRNak, setL, withStatus, confirmed}
-use Rattle.protocol.specs.State.{isAckTo, isDealingOf, isInserted}
+use Rattle.protocol.specs.State.{isAckTo, isExchangeOf, isInserted}
 use Rattle.parts.specs.Tests.{isNotice}
 use Rattle.protocol.proofs.Nodes.{At, unchanged}
-use Rattle.protocol.proofs.Waiting.{Taken, Dealt, apart, request-deals, ack-deals, nak-deals, only-dealing, no-ack, acks-left}
+use Rattle.protocol.proofs.Waiting.{Taken, Limited, apart, request-exchange, ack-exchange, nak-exchange, only-exchange, no-ack, acks-left}
 use Rattle.protocol.proofs.Fields.{statusOf, keyOf, leftOf, rightOf, lseqOf, rseqOf}
 use Rattle.protocol.proofs.Invariant.{isMember, Member, Keeps, stored, coming, Invariant}
 use Rattle.protocol.proofs.Frames.{Settled, settled-in, settled-out, ins-not-del, member-same, request-same, keeps-same, left-same, same-order}
 
 -- m is an answer to i, which then stands as x, settled, with the links and the left number it had
 module _ {N N′ : ℕ → Node} {M rest : List Message} {told joins : ℕ → Bool} {m : Message} {i : ℕ} {x : Node}
-    (dealt : Dealt N M) (inv : Invariant N M told joins) (t : Taken M m rest) (at : At N i x N′) where
-  answered : isDealingOf i m ≡ true → isNotice (m .kind) ≡ false → ((u : ℕ) → u ≢ i → isAckTo u m ≡ false)
+    (limited : Limited N M) (inv : Invariant N M told joins) (t : Taken M m rest) (at : At N i x N′) where
+  answered : isExchangeOf i m ≡ true → isNotice (m .kind) ≡ false → ((u : ℕ) → u ≢ i → isAckTo u m ≡ false)
       → Settled (x .status) → x .key ≡ N i .key → x .right ≡ N i .right → x .left ≡ N i .left → x .lseq ≡ N i .lseq
       → isMember N′ rest i ≡ isMember N M i → ((R : ℕ) → Member N M i → Keeps N′ rest i R → Keeps N M i R)
       → Invariant N′ rest told joins
   answered d not-notice elsewhere st key right left lseq own keep = record {
-    dealings = record {
-      joiners = λ u h. inv .dealings .joiners u (waited u Ins (st .0) h);
-      leavers = λ u h. inv .dealings .leavers u (waited u Del (st .1) h);
-      requests = λ v p new e n j. request-same (at .others v (not-own v p new e n j)) (keys p) (keys e) (inv .dealings .requests v p new e n (t .left _ j));
-      quiet = λ w u a n h f j. inv .dealings .quiet w u a n (waited u Ins (st .0) h) (sym (member u) ∙ f) (t .left _ j);
+    exchanges = record {
+      joiners = λ u h. inv .exchanges .joiners u (waited u Ins (st .0) h);
+      leavers = λ u h. inv .exchanges .leavers u (waited u Del (st .1) h);
+      requests = λ v p new e n j. request-same (at .others v (not-own v p new e n j)) (keys p) (keys e) (inv .exchanges .requests v p new e n (t .left _ j));
+      quiet = λ w u a n h f j. inv .exchanges .quiet w u a n (waited u Ins (st .0) h) (sym (member u) ∙ f) (t .left _ j);
     };
     order = same-order (record {
       member = member;
@@ -57,7 +57,7 @@ module _ {N N′ : ℕ → Node} {M rest : List Message} {told joins : ℕ → B
           go (no e) = sym (ap statusOf (at .others u e)) ∙ h
 
       not-own : (v p new e : ℕ) (n : Number) → setR v p new e n ∈ rest → v ≢ i
-      not-own v p new e n j same = not-both (request-deals v p new e n) (rw (← same) at (only-dealing dealt i t d j))
+      not-own v p new e n j same = not-both (request-exchange v p new e n) (rw (← same) at (only-exchange limited i t d j))
 
       member : (u : ℕ) → isMember N′ rest u ≡ isMember N M u
       member u = go (ℕ-discrete u i)
@@ -81,14 +81,14 @@ ack-elsewhere p i n u d = ne-eqb i u (λ e. d (sym e))
 acked-before : (N : ℕ → Node) {M rest : List Message} {p i n : ℕ} {s : Status} → Taken M (setRAck p i n) rest → N i .status ≡ s → isMember N M i ≡ isInserted s true
 acked-before N {i = i} t st = member-same st (any-in (isAckTo i) (t .waits) (eq-eqb i i refl))
 
-denied-before : {N : ℕ → Node} {M rest : List Message} {p i : ℕ} {s : Status} → Dealt N M → Taken M (setRNak p i) rest → N i .status ≡ s → isMember N M i ≡ isInserted s false
-denied-before {p} {i} dealt t st = member-same st (no-ack dealt i t (nak-deals p i) refl)
+denied-before : {N : ℕ → Node} {M rest : List Message} {p i : ℕ} {s : Status} → Limited N M → Taken M (setRNak p i) rest → N i .status ≡ s → isMember N M i ≡ isInserted s false
+denied-before {p} {i} limited t st = member-same st (no-ack limited i t (nak-exchange p i) refl)
 
-module _ {N N′ : ℕ → Node} {M rest : List Message} {told joins : ℕ → Bool} {p i : ℕ} (dealt : Dealt N M) (inv : Invariant N M told joins) where
+module _ {N N′ : ℕ → Node} {M rest : List Message} {told joins : ℕ → Bool} {p i : ℕ} (limited : Limited N M) (inv : Invariant N M told joins) where
   -- "SetRAck at ins: in, right number := its number": it was inserted from the grant on, with that number
   pub joins-kept : (n : ℕ) → Taken M (setRAck p i n) rest → N i .status ≡ Ins → At N i (confirmed (N i) n) N′ → Invariant N′ rest told joins
   joins-kept n t ins at =
-      answered dealt inv t at (ack-deals p i n) refl (ack-elsewhere p i n) settled-in refl refl refl refl
+      answered limited inv t at (ack-exchange p i n) refl (ack-elsewhere p i n) settled-in refl refl refl refl
       (member-same (ap statusOf (at .self)) refl ∙ sym (acked-before N t ins)) keep
     where
       keep : (R : ℕ) → Member N M i → Keeps N′ rest i R → Keeps N M i R
@@ -101,20 +101,20 @@ module _ {N N′ : ℕ → Node} {M rest : List Message} {told joins : ℕ → B
   -- "At del: out": it was no longer inserted from the grant on
   pub goes-kept : (n : ℕ) → Taken M (setRAck p i n) rest → N i .status ≡ Del → At N i (withStatus Out (N i)) N′ → Invariant N′ rest told joins
   goes-kept n t del at =
-      answered dealt inv t at (ack-deals p i n) refl (ack-elsewhere p i n) settled-out refl refl refl refl
+      answered limited inv t at (ack-exchange p i n) refl (ack-elsewhere p i n) settled-out refl refl refl refl
       (member-same (ap statusOf (at .self)) refl ∙ sym (acked-before N t del)) (λ R m _. absurd (not-both m (acked-before N t del)))
 
   -- "SetRNak at ins: out"
   pub stays-out-kept : Taken M (setRNak p i) rest → N i .status ≡ Ins → At N i (withStatus Out (N i)) N′ → Invariant N′ rest told joins
   stays-out-kept t ins at =
-      answered dealt inv t at (nak-deals p i) refl (λ u d. refl) settled-out refl refl refl refl
-      (member-same (ap statusOf (at .self)) refl ∙ sym (denied-before dealt t ins)) (λ R m _. absurd (not-both m (denied-before dealt t ins)))
+      answered limited inv t at (nak-exchange p i) refl (λ u d. refl) settled-out refl refl refl refl
+      (member-same (ap statusOf (at .self)) refl ∙ sym (denied-before limited t ins)) (λ R m _. absurd (not-both m (denied-before limited t ins)))
 
   -- "At del: in"
   pub stays-in-kept : Taken M (setRNak p i) rest → N i .status ≡ Del → At N i (withStatus In (N i)) N′ → Invariant N′ rest told joins
   stays-in-kept t del at =
-      answered dealt inv t at (nak-deals p i) refl (λ u d. refl) settled-in refl refl refl refl
-      (member-same (ap statusOf (at .self)) refl ∙ sym (denied-before dealt t del)) keep
+      answered limited inv t at (nak-exchange p i) refl (λ u d. refl) settled-in refl refl refl refl
+      (member-same (ap statusOf (at .self)) refl ∙ sym (denied-before limited t del)) keep
     where
       keep : (R : ℕ) → Member N M i → Keeps N′ rest i R → Keeps N M i R
       keep R _ (stored f e) = stored (λ h. ins-not-del (sym h ∙ del)) (sym (ap rseqOf (at .self)) ∙ e)

@@ -11,10 +11,10 @@ use native.Mathlib.Decide.{ℕ-discrete}
 use lib.ListN.{length}
 use lib.Dec.{ltb, eqb}
 use borrow.Author.Tests.{ltb-true, lt-ltb, eqb-false, eq-eqb, not-true, not-false}
-use Rattle.truth.proofs.Laws.{or-right, left-fails, by-test}
-use Rattle.truth.proofs.TestLaws.{_∈_, decided, holds, not-both, count-in, below-at}
+use Rattle.predicates.proofs.Laws.{or-right, left-fails, by-test}
+use Rattle.predicates.proofs.TestLaws.{_∈_, decided, holds, not-both, count-in, below-at}
 use Rattle.refusal.specs.Code.{Reason}
-use Rattle.refusal.specs.Rules.{first, settled}
+use Rattle.refusal.specs.Rules.{first, unlessRefused}
 use Rattle.refusal.proofs.Laws.{Cleared, cleared}
 use Rattle.serial.specs.Serial.{inRange}
 use Rattle.interval.specs.Interval.{between}
@@ -33,10 +33,10 @@ use Rattle.node.proofs.FitLaws.{NodeFits, message-facts, left-named, right-name
 use Rattle.protocol.specs.declared.Call.{Call}
 use Rattle.protocol.specs.declared.Order.the-variants.{Declare, Create, Join, Leave}
 use Rattle.protocol.specs.declared.Call.the-variants.{Order, Deliver}
-use Rattle.protocol.specs.State.{State, queueLimit, nodeAt, statusAt, keyAt, leftAt, rightAt, isDealingOf, dealings, wellFormed}
+use Rattle.protocol.specs.State.{State, queueLimit, nodeAt, statusAt, keyAt, leftAt, rightAt, isExchangeOf, exchanges, wellFormed}
 use Rattle.protocol.specs.Calls.{refused, commit, isFull, isGrantable, declareRules, declaring, createRules, creating, peerAt, joinRules, joining, leaveRules, leaving, messageAt, without, deliverRules, receiving, delivering, rulesOf, effectOf, applyOf}
 use Rattle.protocol.proofs.Waiting.{taken}
-use Rattle.protocol.proofs.Facts.{WellFormed, formed, tested}
+use Rattle.protocol.proofs.Facts.{WellFormed, well-formed, tested}
 use Rattle.protocol.proofs.Changes.{Delivers, Grants, Act, drops, lets-in, lets-go, denies, joins, goes, stays-out, stays-in, takes, ignores, Accepted, declares, creates, asks, goes-alone, leaves, delivers, Change, refuses, accepts}
 
 -- ---- what the tests say
@@ -60,7 +60,7 @@ declare-case s key clear =
 create-case : (s : State) (u : ℕ) → first (createRules s u) ≡ none → Accepted s (Order (Create u)) (creating s u)
 create-case s u clear =
     let (ok, (known, (out, (no-notice, _)))) = cleared (createRules s u) clear in
-    let w = formed s (not-false (wellFormed s) ok) in
+    let w = well-formed s (not-false (wellFormed s) ok) in
     let declared : u < length (s .nodes) = tested-below u _ known in
     let all-out = below-at (length (s .nodes)) (λ v. isOut (statusAt s v)) (not-false _ out) in
     let sound = well-formed-among (w .few-nodes) u declared (w .node u declared) in
@@ -87,7 +87,7 @@ leave-case : (s : State) (u : ℕ) → first (leaveRules s u) ≡ none → Accep
 leave-case s u clear =
     let (ok, (known, (sound, (inside, (unspent, (room, _)))))) = cleared (leaveRules s u) clear in
     let declared : u < length (s .nodes) = tested-below u _ known in
-    let fits = formed s (not-false (wellFormed s) ok) .node u declared in
+    let fits = well-formed s (not-false (wellFormed s) ok) .node u declared in
     let is-in : statusAt s u ≡ In = tested-in (statusAt s u) (not-false _ inside) in
     let right = right-named fits (ap isOut is-in) in
     let own : Cleared (leaveStepRules u (nodeAt s u)) = (sound, (inside, (unspent, tt))) in
@@ -158,11 +158,11 @@ module _ (s : State) (w : WellFormed s) (m : Message) (waits : m ∈ s .messages
   pub declared-addressee : m .to < length (s .nodes)
   declared-addressee = ltb-true (m .to) (length (s .nodes)) (message-facts (length (s .nodes)) m (w .message m waits) .to)
 
-  -- an answer is its addressee's one dealing, and a node that is in has none
+  -- an answer is its addressee's one exchange, and a node that is in has none
   answered-not-in : isAnswer (m .kind) ≡ true → statusAt s (m .to) ≢ In
   answered-not-in answer is-in =
-      let own : isDealingOf (m .to) m ≡ true = or-right (isRequest (m .kind) && eqb (m .sender) (m .to)) _ (rw answer (eq-eqb (m .to) (m .to) refl)) in
-      omega (arith, count-in (isDealingOf (m .to)) waits own, w .dealing (m .to) declared-addressee, ap dealings is-in)
+      let own : isExchangeOf (m .to) m ≡ true = or-right (isRequest (m .kind) && eqb (m .sender) (m .to)) _ (rw answer (eq-eqb (m .to) (m .to) refl)) in
+      omega (arith, count-in (isExchangeOf (m .to)) waits own, w .exchange (m .to) declared-addressee, ap exchanges is-in)
 
   -- the addressee's own rules do not refuse it
   pub received : receiving s m ≡ actOf (m .to) (nodeAt s (m .to)) (m .sender) (m .kind)
@@ -193,7 +193,7 @@ deliver-case : (s : State) (place : ℕ) → first (deliverRules s place) ≡ no
 deliver-case s place clear =
     let (ok, (room, (absent, _))) = cleared (deliverRules s place) clear in
     let present : ltb place (length (s .messages)) ≡ true = not-false _ absent in
-    let (d, act) = waiting-case s (formed s (not-false (wellFormed s) ok)) place (ltb-true place _ present) (rw present at room) in
+    let (d, act) = waiting-case s (well-formed s (not-false (wellFormed s) ok)) place (ltb-true place _ present) (rw present at room) in
     delivers place (messageAt s place) (without place (s .messages)) refl d act
 
 -- so on a well-formed network a delivery is refused by 28 and 29 alone
@@ -216,6 +216,6 @@ pub change : (s : State) (call : Call) → Change s call (applyOf s call)
 unfolding applyOf
 change s call = go (first (rulesOf s call)) (accepted-case s call)
   where
-    go : (o : Option Reason) → (o ≡ none → Accepted s call (effectOf s call)) → Change s call (settled o (refused s) (effectOf s call))
+    go : (o : Option Reason) → (o ≡ none → Accepted s call (effectOf s call)) → Change s call (unlessRefused o (refused s) (effectOf s call))
     go none accepted = accepts (accepted refl)
     go (some n) accepted = refuses n refl

@@ -7,17 +7,17 @@ use mathlib.Core.List.{List, [], _∷_, _++_, Memᴰ·append-left as in-left}
 use Prim.Native.Nat.{ℕ}
 use borrow.Author.Tests.{eqb-true}
 use Rattle.sequence.specs.Sequence.{Number}
-use Rattle.truth.specs.Tests.{any}
-use Rattle.truth.proofs.Laws.{both}
-use Rattle.truth.proofs.TestLaws.{_∈_, decided, not-both}
+use Rattle.predicates.specs.Tests.{any}
+use Rattle.predicates.proofs.Laws.{both}
+use Rattle.predicates.proofs.TestLaws.{_∈_, decided, not-both}
 use Rattle.parts.specs.declared.Status.the-variants.{Out}
 use Rattle.parts.specs.declared.Message.{Message}
 use Rattle.node.specs.declared.Node.{Node}
 use Rattle.node.specs.Actions.{setR, setRNak, setL}
-use Rattle.protocol.specs.State.{isAckTo, dealings}
+use Rattle.protocol.specs.State.{isAckTo, exchanges}
 use Rattle.parts.specs.Tests.{isAck, isNak, isNotice}
 use Rattle.protocol.proofs.Nodes.{At, unchanged}
-use Rattle.protocol.proofs.Waiting.{Taken, Dealt, apart, in-one, same-any, ack-dealing, no-dealing, acks-left}
+use Rattle.protocol.proofs.Waiting.{Taken, Limited, apart, in-one, same-any, ack-is-exchange, no-exchange, acks-left}
 use Rattle.protocol.proofs.Fields.{statusOf, keyOf, leftOf, rightOf, lseqOf, rseqOf, toOf}
 use Rattle.protocol.proofs.Invariant.{isMember, Invariant}
 use Rattle.protocol.proofs.Frames.{member-same, member-not-out, request-same, keeps-same, left-same, same-order}
@@ -27,11 +27,11 @@ pub unmoved : {N N′ : ℕ → Node} {M M′ : List Message} {told joins : ℕ 
     → ((u : ℕ) → any (isAckTo u) M′ ≡ any (isAckTo u) M) → ((x : Message) → isNak (x .kind) ≡ false → x ∈ M′ → x ∈ M)
     → ((w u a : ℕ) (n : Number) → N u .status ≢ Out → setL w u a n ∈ M → setL w u a n ∈ M′) → Invariant N′ M′ told joins
 unmoved {N} {N′} {M} {M′} inv same acks from to = record {
-  dealings = record {
-    joiners = λ u h. inv .dealings .joiners u (sym (status u) ∙ h);
-    leavers = λ u h. inv .dealings .leavers u (sym (status u) ∙ h);
-    requests = λ v p new e n j. request-same (same v) (keys p) (keys e) (inv .dealings .requests v p new e n (from _ refl j));
-    quiet = λ w u a n h f j. inv .dealings .quiet w u a n (sym (status u) ∙ h) (sym (member u) ∙ f) (from _ refl j);
+  exchanges = record {
+    joiners = λ u h. inv .exchanges .joiners u (sym (status u) ∙ h);
+    leavers = λ u h. inv .exchanges .leavers u (sym (status u) ∙ h);
+    requests = λ v p new e n j. request-same (same v) (keys p) (keys e) (inv .exchanges .requests v p new e n (from _ refl j));
+    quiet = λ w u a n h f j. inv .exchanges .quiet w u a n (sym (status u) ∙ h) (sym (member u) ∙ f) (from _ refl j);
   };
   order = same-order (record {
     member = member;
@@ -61,14 +61,14 @@ module _ {N N′ : ℕ → Node} {M rest : List Message} {told joins : ℕ → B
       (λ w u a k _ j. in-left _ (⊎-elim (λ d. absurd (apart (λ y. isNotice (y .kind)) refl refl d)) (λ l. l) (t .either _ j)))
 
   -- "A bench that is out drops every message"
-  pub drops-kept : {m : Message} → Dealt N M → m .to ≡ i → N i .status ≡ Out → Taken M m rest → Invariant N′ rest told joins
-  drops-kept {m} dealt to out t = unmoved inv (unchanged at (λ y. y) refl) (λ u. acks-left u t (no-answer u)) (λ x _ j. t .left x j) notice
+  pub drops-kept : {m : Message} → Limited N M → m .to ≡ i → N i .status ≡ Out → Taken M m rest → Invariant N′ rest told joins
+  drops-kept {m} limited to out t = unmoved inv (unchanged at (λ y. y) refl) (λ u. acks-left u t (no-answer u)) (λ x _ j. t .left x j) notice
     where
       no-answer : (u : ℕ) → isAckTo u m ≡ false
-      no-answer u = ⊎-elim (λ a. absurd (not-both (ack-dealing u m a) (no-dealing dealt u (idle u a) (t .waits)))) (λ f. f) (decided (isAckTo u m))
+      no-answer u = ⊎-elim (λ a. absurd (not-both (ack-is-exchange u m a) (no-exchange limited u (idle u a) (t .waits)))) (λ f. f) (decided (isAckTo u m))
         where
-          idle : (u : ℕ) → isAckTo u m ≡ true → dealings (N u .status) ≡ 0
-          idle u a = ap (λ w. dealings (N w .status)) (sym (eqb-true (m .to) u (both (isAck (m .kind)) _ a .1)) ∙ to) ∙ ap dealings out
+          idle : (u : ℕ) → isAckTo u m ≡ true → exchanges (N u .status) ≡ 0
+          idle u a = ap (λ w. exchanges (N w .status)) (sym (eqb-true (m .to) u (both (isAck (m .kind)) _ a .1)) ∙ to) ∙ ap exchanges out
 
       notice : (w u a : ℕ) (n : Number) → N u .status ≢ Out → setL w u a n ∈ M → setL w u a n ∈ rest
       notice w u a n d j = ⊎-elim (λ e. absurd (d (ap (λ k. N k .status) (ap toOf e ∙ to) ∙ out))) (λ k. k) (t .either _ j)

@@ -12,8 +12,8 @@ use native.Mathlib.Nat.{eq-or-lt-of-le, eq-zero-or-pos}
 use lib.ListN.{length}
 use lib.Dec.{T, ltb}
 use borrow.Author.Tests.{ltb-true}
-use Rattle.truth.proofs.Laws.{and-false}
-use Rattle.truth.proofs.TestLaws.{decided, is-true, not-both, bit-true}
+use Rattle.predicates.proofs.Laws.{and-false}
+use Rattle.predicates.proofs.TestLaws.{decided, is-true, not-both, bit-true}
 use Rattle.protocol.specs.declared.Call.{Call}
 use Rattle.protocol.specs.declared.Call.the-variants.{Deliver}
 use Rattle.protocol.specs.State.{State, wellFormed}

@@ -7,7 +7,7 @@ use mathlib.Core.List.{List, [], _∷_}
 use Prim.Native.Nat.{ℕ, _<_}
 use native.Mathlib.Omega.{arith}
 use lib.ListN.{length}
-use Rattle.truth.proofs.TestLaws.{_∈_, holds, is-true, not-both}
+use Rattle.predicates.proofs.TestLaws.{_∈_, holds, is-true, not-both}
 use Rattle.interval.proofs.Laws.{between-iff}
 use Rattle.sequence.specs.Sequence.{Number, nextSeq, cappedNext}
 use Rattle.links.specs.Ring.{Ascending, withMember, withoutMember}
@@ -243,11 +243,11 @@ module _ (h : History) (g : Good h) where
   act-does place at t k after (drops out er) = rw er (kept (set-at (h .state .nodes) k) refl refl (rw er at after))
   act-does place at t k after (lets-in v p e n l em gr room er) =
       let c = granting-of h g e v (nextSeq l) (nextSeq l) (rw em at t) (rw em at k) gr in
-      let event = granted-event h g place at em (g .invariant .dealings .joiners v (is-joiner c)) in
+      let event = granted-event h g place at em (g .invariant .exchanges .joiners v (is-joiner c)) in
       rw (er, event) (admits c ((rw (er, event) at after) .order))
   act-does place at t k after (lets-go v p new e n l em d gr er) =
       let c = granting-of h g new p n (cappedNext l) (rw em at t) (rw em at k) gr in
-      let event = granted-event h g place at em (g .invariant .dealings .leavers v (is-leaver c d)) in
+      let event = granted-event h g place at em (g .invariant .exchanges .leavers v (is-leaver c d)) in
       rw (er, event) (releases c d ((rw (er, event) at after) .order))
   act-does place at t k after (denies v p new e n em out er) = rw er (kept (set-at (h .state .nodes) (rw em at k)) refl refl (rw er at after))
   act-does place at t k after (joins p u n em ins er) = rw er (kept (set-at (h .state .nodes) (rw em at k)) refl refl (rw er at after))

@@ -7,8 +7,8 @@ use mathlib.Core.List.{List}
 use Prim.Native.Nat.{ℕ}
 use native.Mathlib.Omega.{arith}
 use Rattle.sequence.specs.Sequence.{Number}
-use Rattle.truth.specs.Tests.{any}
-use Rattle.truth.proofs.TestLaws.{_∈_, not-both}
+use Rattle.predicates.specs.Tests.{any}
+use Rattle.predicates.proofs.TestLaws.{_∈_, not-both}
 use Rattle.links.proofs.Circuit.{ring-kept, next-in}
 use Rattle.parts.specs.declared.Status.{Status}
 use Rattle.parts.specs.declared.Status.the-variants.{Out, Ins, In, Del}
@@ -59,7 +59,7 @@ left-same {u} {R} sl ll from to k = record {
   reached = rw sl (k .reached);
   noticed = λ w a n i. k .noticed w a n (from w a n i);
   named = λ w a i. k .named w a (from w a R i);
-  settled = λ e. ll ∙ k .settled (sym sl ∙ e);
+  current = λ e. ll ∙ k .current (sym sl ∙ e);
   awaited = λ d. let (w, a, i) = k .awaited (λ e. d (sl ∙ e)) in (w, a, to w a R i);
 }
 

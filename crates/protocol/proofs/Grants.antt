@@ -8,8 +8,8 @@ use mathlib.Core.List.{List, [], _∷_, _++_, Memᴰ·append-left as in-left, Me
 use Prim.Native.Nat.{ℕ}
 use native.Mathlib.Decide.{ℕ-discrete}
 use borrow.Author.Tests.{eq-eqb, ne-eqb}
-use Rattle.truth.specs.Tests.{any}
-use Rattle.truth.proofs.TestLaws.{_∈_, not-both, any-in}
+use Rattle.predicates.specs.Tests.{any}
+use Rattle.predicates.proofs.TestLaws.{_∈_, not-both, any-in}
 use Rattle.sequence.specs.Sequence.{Number, nextSeq}
 use Rattle.sequence.proofs.Laws.{Newer, newer-irreflexive, newer-transitive, next-newer}
 use Rattle.links.proofs.Ring.{here, there, With, Without}
@@ -27,9 +27,9 @@ use Rattle.node.specs.Actions.{setR, setRAck, setL, relinked}
 use Rattle.protocol.specs.State.{isAckTo}
 use Rattle.parts.specs.Tests.{isAck, isNotice, isRequest}
 use Rattle.protocol.proofs.Nodes.{At, unchanged}
-use Rattle.protocol.proofs.Waiting.{Taken, Dealt, apart, in-two, same-any, request-deals, ack-deals, only-dealing, no-ack, waits-for, acks-left}
+use Rattle.protocol.proofs.Waiting.{Taken, Limited, apart, in-two, same-any, request-exchange, ack-exchange, only-exchange, no-ack, waits-for, acks-left}
 use Rattle.protocol.proofs.Fields.{statusOf, keyOf, leftOf, rightOf, lseqOf, rseqOf, kindOf, toOf}
-use Rattle.protocol.proofs.Invariant.{isMember, Member, ByJoiner, ByLeaver, Request, Dealings, Keeps, stored, coming, LeftLink, Invariant}
+use Rattle.protocol.proofs.Invariant.{isMember, Member, ByJoiner, ByLeaver, Request, Exchanges, Keeps, stored, coming, LeftLink, Invariant}
 use Rattle.protocol.proofs.Frames.{settled-in, ins-not-del, member-same, request-same, keeps-same, left-same}
 
 -- node p has granted v's request: a notice (a, k) to q and the answer l to v have come to those that wait
@@ -62,7 +62,7 @@ granted rest p v q a k l = record {
 -- ---- what both grants have in common
 -- node p, which is in, has granted v's request and is relinked; q is the node whose left link is to change
 pub record Grant (N N′ : ℕ → Node) (M rest M′ : List Message) (told joins : ℕ → Bool) (v p new e : ℕ) (n : Number) (q a : ℕ) (k l : Number) : Type 0 where
-  pub dealt : Dealt N M
+  pub limited : Limited N M
   pub inv : Invariant N M told joins
   pub taken : Taken M (setR v p new e n) rest
   pub queue : Granted rest M′ p v q a k l
@@ -76,13 +76,13 @@ module _ {N N′ : ℕ → Node} {M rest M′ : List Message} {told joins : ℕ 
 
   -- v waits with this request and no answer
   waiting : Request N v p new e n
-  waiting = c .inv .dealings .requests v p new e n (c .taken .waits)
+  waiting = c .inv .exchanges .requests v p new e n (c .taken .waits)
 
   waits : (N v .status ≡ Ins) ⊎ (N v .status ≡ Del)
-  waits = waits-for (c .dealt) v (c .taken .waits) (request-deals v p new e n)
+  waits = waits-for (c .limited) v (c .taken .waits) (request-exchange v p new e n)
 
   no-answer : any (isAckTo v) M ≡ false
-  no-answer = no-ack (c .dealt) v (c .taken) (request-deals v p new e n) refl
+  no-answer = no-ack (c .limited) v (c .taken) (request-exchange v p new e n) refl
 
   pub granting : Member N M p
   granting = member-same (c .is-in) refl
@@ -96,10 +96,10 @@ module _ {N N′ : ℕ → Node} {M rest M′ : List Message} {told joins : ℕ 
   same-member : (u : ℕ) → u ≢ v → isMember N′ M′ u ≡ isMember N M u
   same-member u d = member-same (status u) (same-any (isAckTo u) M′ rest (λ y b j. c .queue .acks-to u y d b j) (λ y _ j. c .queue .still y j) ∙ acks-left u (c .taken) refl)
 
-  dealings-kept : Member N M q → (N v .status ≡ Ins → isMember N′ M′ v ≡ true) → Dealings N′ M′ joins
-  dealings-kept member-q own = record {
-    joiners = λ u h. c .inv .dealings .joiners u (sym (status u) ∙ h);
-    leavers = λ u h. c .inv .dealings .leavers u (sym (status u) ∙ h);
+  exchanges-kept : Member N M q → (N v .status ≡ Ins → isMember N′ M′ v ≡ true) → Exchanges N′ M′ joins
+  exchanges-kept member-q own = record {
+    joiners = λ u h. c .inv .exchanges .joiners u (sym (status u) ∙ h);
+    leavers = λ u h. c .inv .exchanges .leavers u (sym (status u) ∙ h);
     requests = λ w u b d m j. request w u b d m (c .taken .left _ (c .queue .requests w u b d m j)) (ℕ-discrete w p);
     quiet = λ w u b m h f j. quiet w u b m (sym (status u) ∙ h) f j (ℕ-discrete u v);
   }
@@ -112,13 +112,13 @@ module _ {N N′ : ℕ → Node} {M rest M′ : List Message} {told joins : ℕ 
         by-joiner = λ h. absurd (not-granting Ins (settled-in .0) w (sym (status w) ∙ h) f);
         by-leaver = λ h. absurd (not-granting Del (settled-in .1) w (sym (status w) ∙ h) f);
       }
-      request w u b d m j (no f) = request-same (c .at .others w f) (keys u) (keys d) (c .inv .dealings .requests w u b d m j)
+      request w u b d m j (no f) = request-same (c .at .others w f) (keys u) (keys d) (c .inv .exchanges .requests w u b d m j)
 
       quiet : (w u b : ℕ) (m : Number) → N u .status ≡ Ins → isMember N′ M′ u ≡ false → setL w u b m ∈ M′ → Dec (u ≡ v) → ⊥
       quiet w u b m h f j (yes d) = not-both (own (ap (λ w. N w .status) (sym d) ∙ h)) (ap (isMember N′ M′) (sym d) ∙ f)
       quiet w u b m h f j (no d) =
           let before : isMember N M u ≡ false = sym (same-member u d) ∙ f in
-          ⊎-elim (λ i. c .inv .dealings .quiet w u b m h before (c .taken .left _ i)) (λ z. not-both member-q (ap (isMember N M) (sym (z .0)) ∙ before)) (c .queue .notices w u b m j)
+          ⊎-elim (λ i. c .inv .exchanges .quiet w u b m h before (c .taken .left _ i)) (λ z. not-both member-q (ap (isMember N M) (sym (z .0)) ∙ before)) (c .queue .notices w u b m j)
 
   -- the links into other nodes than q
   other-link : (w u R : ℕ) → u ≢ q → LeftLink N M w u R → LeftLink N′ M′ w u R
@@ -135,7 +135,7 @@ module _ {N N′ : ℕ → Node} {M rest M′ : List Message} {told joins : ℕ 
     reached = λ h. old .reached (passed (N q .lseq) (rw (lseq, next) at h));
     noticed = λ w b m j h. ⊎-elim (λ i. old .noticed w b m (c .taken .left _ i) (passed m (rw next at h))) (λ z. newer-irreflexive k (rw (z .2) at h)) (c .queue .notices w q b m j);
     named = λ w b j. ⊎-elim (λ i. absurd (old .noticed w b k (c .taken .left _ i) (rw next (next-newer R)))) (λ z. z .1) (c .queue .notices w q b k j);
-    settled = λ h. absurd (old .reached (rw (sym lseq ∙ h ∙ next) (next-newer R)));
+    current = λ h. absurd (old .reached (rw (sym lseq ∙ h ∙ next) (next-newer R)));
     awaited = λ _. (p, a, c .queue .notice);
   }
     where
@@ -184,7 +184,7 @@ module _ {N N′ : ℕ → Node} {M rest M′ : List Message} {told told′ join
     (number : N p .rseq ≡ Is k) (others-told : (u : ℕ) → u ≢ v → told′ u ≡ told u) (own-told : told′ v ≡ true) where
   pub lets-in-kept : Invariant N′ M′ told′ joins
   lets-in-kept = record {
-    dealings = dealings-kept c (e-member c) (λ _. own);
+    exchanges = exchanges-kept c (e-member c) (λ _. own);
     order = record {
       order = w .order;
       ring = ring-kept (w .ring) (λ u _. unchanged (c .at) keyOf refl u) (λ u _. refl);
@@ -230,11 +230,11 @@ module _ {N N′ : ℕ → Node} {M rest M′ : List Message} {told told′ join
       -- the joiner's number is the one that the answer brings it
       joiner-keeps : (R : ℕ) → Keeps N′ M′ v R → R ≡ nextSeq k
       joiner-keeps R (stored f h) = absurd (f (status c v ∙ ins))
-      joiner-keeps R (coming h x j) = ⊎-elim (λ i. absurd (not-both (ack-deals x v R) (only-dealing (c .dealt) v (c .taken) (request-deals v p v e n) i))) (λ z. z .1) (c .queue .acks x v R j)
+      joiner-keeps R (coming h x j) = ⊎-elim (λ i. absurd (not-both (ack-exchange x v R) (only-exchange (c .limited) v (c .taken) (request-exchange v p v e n) i))) (λ z. z .1) (c .queue .acks x v R j)
 
       no-notice : (x b m : ℕ) → ¬ (setL x v b m ∈ M′)
       no-notice x b m j =
-          ⊎-elim (λ i. c .inv .dealings .quiet x v b m ins not-yet (c .taken .left _ i)) (λ z. not-both (e-member c) (ap (isMember N M) (sym (z .0)) ∙ not-yet)) (c .queue .notices x v b m j)
+          ⊎-elim (λ i. c .inv .exchanges .quiet x v b m ins not-yet (c .taken .left _ i)) (λ z. not-both (e-member c) (ap (isMember N M) (sym (z .0)) ∙ not-yet)) (c .queue .notices x v b m j)
 
       to-joiner : (R : ℕ) → R ≡ N v .lseq → LeftLink N′ M′ p v R
       to-joiner R h =
@@ -243,7 +243,7 @@ module _ {N N′ : ℕ → Node} {M rest M′ : List Message} {told told′ join
             reached = rw lseq (newer-irreflexive R);
             noticed = λ x b m j. absurd (no-notice x b m j);
             named = λ x b j. absurd (no-notice x b R j);
-            settled = λ _. unchanged (c .at) leftOf refl v ∙ asked .left;
+            current = λ _. unchanged (c .at) leftOf refl v ∙ asked .left;
             awaited = λ d. absurd (d lseq);
           }
 
@@ -272,7 +272,7 @@ module _ {N N′ : ℕ → Node} {M rest M′ : List Message} {told told′ join
     (another : new ≢ v) (number : N v .rseq ≡ Is R₀) (others-told : (u : ℕ) → u ≢ v → told′ u ≡ told u) (own-told : told′ v ≡ false) where
   pub lets-go-kept : Invariant N′ M′ told′ joins
   lets-go-kept = record {
-    dealings = dealings-kept c new-member (λ h. absurd (ins-not-del (sym h ∙ del)));
+    exchanges = exchanges-kept c new-member (λ h. absurd (ins-not-del (sym h ∙ del)));
     order = record {
       order = w .order;
       ring = ring-kept (w .ring) (λ u _. unchanged (c .at) keyOf refl u) (λ u _. refl);

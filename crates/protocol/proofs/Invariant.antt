@@ -6,8 +6,8 @@ use mathlib.Core.Logic.{_↔_, _≢_}
 use mathlib.Core.Bool.{Bool, true, false}
 use mathlib.Core.List.{List}
 use Prim.Native.Nat.{ℕ}
-use Rattle.truth.specs.Tests.{any}
-use Rattle.truth.proofs.TestLaws.{_∈_}
+use Rattle.predicates.specs.Tests.{any}
+use Rattle.predicates.proofs.TestLaws.{_∈_}
 use Rattle.interval.proofs.Laws.{Between}
 use Rattle.sequence.specs.Sequence.{Number, nextSeq}
 use Rattle.sequence.proofs.Laws.{Newer}
@@ -18,7 +18,7 @@ use Rattle.parts.specs.declared.Seq.the-variants.{Is}
 use Rattle.parts.specs.declared.Message.{Message}
 use Rattle.node.specs.declared.Node.{Node}
 use Rattle.node.specs.Actions.{setR, setRAck, setL}
-use Rattle.protocol.specs.State.{isAckTo, dealings, isInserted}
+use Rattle.protocol.specs.State.{isAckTo, exchanges, isInserted}
 
 abbrev pub isMember : (ℕ → Node) → List Message → ℕ → Bool
 isMember N M u = isInserted (N u .status) (any (isAckTo u) M)
@@ -48,7 +48,7 @@ pub record Request (N : ℕ → Node) (v p new e : ℕ) (n : Number) : Type 0 wh
   pub by-leaver : N v .status ≡ Del → ByLeaver N v new e n
 
 -- who waits for what, and for whom no notice is on the way
-pub record Dealings (N : ℕ → Node) (M : List Message) (joins : ℕ → Bool) : Type 0 where
+pub record Exchanges (N : ℕ → Node) (M : List Message) (joins : ℕ → Bool) : Type 0 where
   pub joiners : (u : ℕ) → N u .status ≡ Ins → joins u ≡ true
   pub leavers : (u : ℕ) → N u .status ≡ Del → joins u ≡ false
   pub requests : (v p new e : ℕ) (n : Number) → setR v p new e n ∈ M → Request N v p new e n
@@ -65,7 +65,7 @@ pub record LeftLink (N : ℕ → Node) (M : List Message) (v u : ℕ) (R : Numbe
   pub reached : ¬ Newer (N u .lseq) R
   pub noticed : (w a : ℕ) (n : Number) → setL w u a n ∈ M → ¬ Newer n R
   pub named : (w a : ℕ) → setL w u a R ∈ M → a ≡ v
-  pub settled : N u .lseq ≡ R → N u .left ≡ To v
+  pub current : N u .lseq ≡ R → N u .left ≡ To v
   pub awaited : N u .lseq ≢ R → (w : ℕ) × (a : ℕ) × (setL w u a R ∈ M)
 
 -- ---- the ring, and its left links
@@ -77,5 +77,5 @@ pub record Order (N : ℕ → Node) (M : List Message) (told : ℕ → Bool) : T
   pub lefts : (v u : ℕ) (R : Number) → Member N M v → N v .right ≡ To u → Keeps N M v R → LeftLink N M v u R
 
 pub record Invariant (N : ℕ → Node) (M : List Message) (told joins : ℕ → Bool) : Type 0 where
-  pub dealings : Dealings N M joins
+  pub exchanges : Exchanges N M joins
   pub order : Order N M told

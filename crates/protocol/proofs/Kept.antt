@@ -1,5 +1,5 @@
--- Each call keeps a network well formed. An order finds a node with no dealings, which it may give one; a delivered request goes and an
--- answer to the same node comes; a delivered answer goes, and its node has no dealings left. Each case of `Changes` shows its part, and `Moves`
+-- Each call keeps a network well formed. An order finds a node with no exchanges, which it may give one; a delivered request goes and an
+-- answer to the same node comes; a delivered answer goes, and its node has no exchanges left. Each case of `Changes` shows its part, and `Moves`
 -- the rest. Assumes nothing.
 use mathlib.Core.Path.{_≡_, refl, sym, ap}
 use mathlib.Core.Logic.{_≢_}
@@ -10,9 +10,9 @@ use native.Mathlib.Omega.{arith}
 use lib.ListN.{length, length-append}
 use lib.Dec.{ltb, eqb}
 use borrow.Author.Tests.{lt-ltb, eq-eqb, ne-eqb}
-use Rattle.truth.specs.Tests.{bit, count}
-use Rattle.truth.proofs.Laws.{or-false, both, not-left}
-use Rattle.truth.proofs.TestLaws.{bit-true, bit-false, count-append}
+use Rattle.predicates.specs.Tests.{bit, count}
+use Rattle.predicates.proofs.Laws.{or-false, both, not-left}
+use Rattle.predicates.proofs.TestLaws.{bit-true, bit-false, count-append}
 use Rattle.sequence.specs.Sequence.{Number, nextSeq, cappedNext}
 use Rattle.parts.specs.declared.Status.the-variants.{Out, In, Del}
 use Rattle.parts.specs.declared.Message.{Message}
@@ -22,7 +22,7 @@ use Rattle.node.specs.declared.Node.{Node}
 use Rattle.node.specs.Actions.{setR, setRAck, setRNak, setL, withStatus, created, joining, relinked}
 use Rattle.node.proofs.FitLaws.{NodeFits, MessageFits, message-facts, PostsFit, message-fits, created-fits, joining-fits, out-fits, status-fits, confirmed-fits, relinked-fits, left-set-fits}
 use Rattle.protocol.specs.declared.Call.{Call}
-use Rattle.protocol.specs.State.{State, queueLimit, nodeAt, statusAt, keyAt, isDealingOf, dealings}
+use Rattle.protocol.specs.State.{State, queueLimit, nodeAt, statusAt, keyAt, isExchangeOf, exchanges}
 use Rattle.protocol.specs.Calls.{Result, peerAt}
 use Rattle.protocol.proofs.Waiting.{Taken}
 use Rattle.protocol.proofs.Facts.{WellFormed}
@@ -31,8 +31,8 @@ use Rattle.protocol.proofs.Changes.{Act, drops, lets-in, lets-go, denie
 use Rattle.protocol.proofs.Changes.{Accepted, declares, creates, asks, goes-alone, leaves, delivers, Change, refuses, accepts}
 use Rattle.protocol.proofs.Moves.{AllFit, with-posts, Moves, moved-kept, declare-kept}
 
--- ---- whose dealing a message is: a request is its sender's; that an answer is the addressee's computes
-request-of : (u v p new e n : ℕ) → bit (isDealingOf u (setR v p new e n)) ≡ bit (eqb v u)
+-- ---- whose exchange a message is: a request is its sender's; that an answer is the addressee's computes
+request-of : (u v p new e n : ℕ) → bit (isExchangeOf u (setR v p new e n)) ≡ bit (eqb v u)
 request-of u v p new e n = ap bit (or-false (eqb v u))
 
 own : (u : ℕ) → bit (eqb u u) ≡ 1
@@ -42,8 +42,8 @@ another's : (u v : ℕ) → v ≢ u → bit (eqb u v) ≡ 0
 another's u v d = bit-false (ne-eqb u v (λ e. d (sym e)))
 
 module _ {s : State} (w : WellFormed s) where
-  -- ---- the orders to a node that has no dealings: it may get one, by its request
-  module _ {u : ℕ} {x : Node} (h : u < length (s .nodes)) (none : dealings (statusAt s u) ≡ 0) (key : x .key ≡ keyAt s u) (fits : NodeFits (length (s .nodes)) x) where
+  -- ---- the orders to a node that has no exchanges: it may get one, by its request
+  module _ {u : ℕ} {x : Node} (h : u < length (s .nodes)) (none : exchanges (statusAt s u) ≡ 0) (key : x .key ≡ keyAt s u) (fits : NodeFits (length (s .nodes)) x) where
     keeps-messages : Moves s u x (s .messages)
     keeps-messages = record {
       declared = h;
@@ -51,11 +51,11 @@ module _ {s : State} (w : WellFormed s) where
       fits = fits;
       few = w .few-messages;
       messages = w .message;
-      dealing = omega (arith, w .dealing u h);
+      exchange = omega (arith, w .exchange u h);
       others = λ v d. omega arith;
     }
 
-    adds-request : (p new e : ℕ) (n : Number) → dealings (x .status) ≡ 1 → length (s .messages) < queueLimit → messageFits (length (s .nodes)) (setR u p new e n) ≡ true
+    adds-request : (p new e : ℕ) (n : Number) → exchanges (x .status) ≡ 1 → length (s .messages) < queueLimit → messageFits (length (s .nodes)) (setR u p new e n) ≡ true
         → Moves s u x (s .messages ++ setR u p new e n ∷ [])
     adds-request p new e n one room posted = record {
       declared = h;
@@ -63,28 +63,28 @@ module _ {s : State} (w : WellFormed s) where
       fits = fits;
       few = omega (arith, length-append (s .messages) (setR u p new e n ∷ []));
       messages = with-posts (length (s .nodes)) (s .messages) (setR u p new e n ∷ []) (w .message) (posted, tt);
-      dealing = omega (arith, w .dealing u h, more u, own u);
+      exchange = omega (arith, w .exchange u h, more u, own u);
       others = λ v d. omega (arith, more v, another's u v d);
     }
       where
-        more : (v : ℕ) → count (isDealingOf v) (s .messages ++ setR u p new e n ∷ []) ≡ count (isDealingOf v) (s .messages) + bit (eqb u v)
-        more v = omega (arith, count-append (isDealingOf v) (s .messages) (setR u p new e n ∷ []), request-of v u p new e n)
+        more : (v : ℕ) → count (isExchangeOf v) (s .messages ++ setR u p new e n ∷ []) ≡ count (isExchangeOf v) (s .messages) + bit (eqb u v)
+        more v = omega (arith, count-append (isExchangeOf v) (s .messages) (setR u p new e n ∷ []), request-of v u p new e n)
 
   create-kept : {u : ℕ} → Creates s u → Moves s u (created u (nodeAt s u)) (s .messages)
   create-kept {u} h =
       let u-in = lt-ltb u (length (s .nodes)) (h .declared) in
-      keeps-messages (h .declared) (ap dealings (h .all-out u (h .declared))) refl (created-fits (w .node u (h .declared)) u u-in)
+      keeps-messages (h .declared) (ap exchanges (h .all-out u (h .declared))) refl (created-fits (w .node u (h .declared)) u u-in)
 
   join-kept : {u p q : ℕ} → Joins s u p q → Moves s u (joining (nodeAt s u) (peerAt s p) (peerAt s q)) (s .messages ++ setR u p u q (nodeAt s u .lseq) ∷ [])
   join-kept {u} {p} {q} h =
       let u-in = lt-ltb u (length (s .nodes)) (h .declared) in
       let p-in = lt-ltb p (length (s .nodes)) (h .left-declared) in
       let q-in = lt-ltb q (length (s .nodes)) (h .right-declared) in
-      adds-request (h .declared) (ap dealings (h .is-out)) refl (joining-fits (w .node u (h .declared)) (peerAt s p) (peerAt s q) p-in q-in)
+      adds-request (h .declared) (ap exchanges (h .is-out)) refl (joining-fits (w .node u (h .declared)) (peerAt s p) (peerAt s q) p-in q-in)
       p u q (nodeAt s u .lseq) refl (h .room) (message-fits (length (s .nodes)) (setR u p u q (nodeAt s u .lseq)) u-in p-in (simp (u-in, q-in)))
 
   leave-alone-kept : {u : ℕ} → LeavesAlone s u → Moves s u (withStatus Out (nodeAt s u)) (s .messages)
-  leave-alone-kept {u} h = keeps-messages (h .declared) (ap dealings (h .is-in)) refl (out-fits (w .node u (h .declared)))
+  leave-alone-kept {u} h = keeps-messages (h .declared) (ap exchanges (h .is-in)) refl (out-fits (w .node u (h .declared)))
 
   leave-kept : {u p q : ℕ} {n : Number} → Leaves s u p q n → Moves s u (withStatus Del (nodeAt s u)) (s .messages ++ setR u p q u (nextSeq n) ∷ [])
   leave-kept {u} {p} {q} {n} h =
@@ -92,7 +92,7 @@ module _ {s : State} (w : WellFormed s) where
       let u-in = lt-ltb u (length (s .nodes)) (h .declared) in
       let p-in : ltb p (length (s .nodes)) ≡ true = rw (h .left) at (node .left) in
       let q-in : ltb q (length (s .nodes)) ≡ true = rw (h .right) at (node .right) in
-      adds-request (h .declared) (ap dealings (h .is-in)) refl (status-fits node Del (ap isOut (h .is-in)) (ap numbered (h .number)))
+      adds-request (h .declared) (ap exchanges (h .is-in)) refl (status-fits node Del (ap isOut (h .is-in)) (ap numbered (h .number)))
       p q u (nextSeq n) refl (h .room) (message-fits (length (s .nodes)) (setR u p q u (nextSeq n)) u-in p-in (simp (q-in, u-in)))
 
   -- ---- the deliveries
@@ -100,39 +100,39 @@ module _ {s : State} (w : WellFormed s) where
     rest-fits : AllFit (length (s .nodes)) rest
     rest-fits x i = w .message x (t .left x i)
 
-    -- the node keeps its status, and posts no more dealings than have gone with the message
+    -- the node keeps its status, and posts no more exchanges than have gone with the message
     adds-posts : {i : ℕ} {x : Node} (posts : List Message) → i < length (s .nodes) → x .key ≡ keyAt s i → x .status ≡ statusAt s i → NodeFits (length (s .nodes)) x
-        → length rest + length posts ≤ queueLimit → PostsFit (length (s .nodes)) posts → ((u : ℕ) → count (isDealingOf u) posts ≤ bit (isDealingOf u m)) → Moves s i x (rest ++ posts)
+        → length rest + length posts ≤ queueLimit → PostsFit (length (s .nodes)) posts → ((u : ℕ) → count (isExchangeOf u) posts ≤ bit (isExchangeOf u m)) → Moves s i x (rest ++ posts)
     adds-posts {i} posts h key status fits few posted no-more = record {
       declared = h;
       key = key;
       fits = fits;
       few = omega (arith, length-append rest posts);
       messages = with-posts (length (s .nodes)) rest posts rest-fits posted;
-      dealing = omega (arith, w .dealing i h, dealing i, ap dealings status);
-      others = λ u d. dealing u;
+      exchange = omega (arith, w .exchange i h, exchange i, ap exchanges status);
+      others = λ u d. exchange u;
     }
       where
-        dealing : (u : ℕ) → count (isDealingOf u) (rest ++ posts) ≤ count (isDealingOf u) (s .messages)
-        dealing u = omega (arith, count-append (isDealingOf u) rest posts, t .counted (isDealingOf u), no-more u)
+        exchange : (u : ℕ) → count (isExchangeOf u) (rest ++ posts) ≤ count (isExchangeOf u) (s .messages)
+        exchange u = omega (arith, count-append (isExchangeOf u) rest posts, t .counted (isExchangeOf u), no-more u)
 
-    only-takes : {i : ℕ} {x : Node} → i < length (s .nodes) → x .key ≡ keyAt s i → NodeFits (length (s .nodes)) x → count (isDealingOf i) rest ≤ dealings (x .status) → Moves s i x rest
-    only-takes h key fits dealing = record {
+    only-takes : {i : ℕ} {x : Node} → i < length (s .nodes) → x .key ≡ keyAt s i → NodeFits (length (s .nodes)) x → count (isExchangeOf i) rest ≤ exchanges (x .status) → Moves s i x rest
+    only-takes h key fits exchange = record {
       declared = h;
       key = key;
       fits = fits;
       few = omega (arith, w .few-messages, t .shorter);
       messages = rest-fits;
-      dealing = dealing;
-      others = λ u d. omega (arith, t .counted (isDealingOf u));
+      exchange = exchange;
+      others = λ u d. omega (arith, t .counted (isExchangeOf u));
     }
 
     keeps-status : {i : ℕ} {x : Node} → i < length (s .nodes) → x .key ≡ keyAt s i → x .status ≡ statusAt s i → NodeFits (length (s .nodes)) x → Moves s i x rest
-    keeps-status {i} h key status fits = only-takes h key fits (omega (arith, w .dealing i h, t .counted (isDealingOf i), ap dealings status))
+    keeps-status {i} h key status fits = only-takes h key fits (omega (arith, w .exchange i h, t .counted (isExchangeOf i), ap exchanges status))
 
-    -- the one dealing of the node goes with the message
-    is-answered : {u : ℕ} {x : Node} → u < length (s .nodes) → bit (isDealingOf u m) ≡ 1 → dealings (statusAt s u) ≡ 1 → x .key ≡ keyAt s u → NodeFits (length (s .nodes)) x → Moves s u x rest
-    is-answered {u} h its one key fits = only-takes h key fits (omega (arith, w .dealing u h, t .counted (isDealingOf u)))
+    -- the one exchange of the node goes with the message
+    is-answered : {u : ℕ} {x : Node} → u < length (s .nodes) → bit (isExchangeOf u m) ≡ 1 → exchanges (statusAt s u) ≡ 1 → x .key ≡ keyAt s u → NodeFits (length (s .nodes)) x → Moves s u x rest
+    is-answered {u} h its one key fits = only-takes h key fits (omega (arith, w .exchange u h, t .counted (isExchangeOf u)))
 
   -- a request goes, and an answer to its sender comes
   module _ {v p new e : ℕ} {n : Number} {rest : List Message} (t : Taken (s .messages) (setR v p new e n) rest) (h : p < length (s .nodes)) where
@@ -169,18 +169,18 @@ module _ {s : State} (w : WellFormed s) where
   act-kept t h (denies v p new e n em o er) = rw er (moved-kept w (deny-kept (rw em at t) (rw em at h)))
   act-kept t h (joins p u n em e er) =
       let h : u < length (s .nodes) = rw em at h in
-      rw er (moved-kept w (is-answered t h (rw em (own u)) (ap dealings e) refl (confirmed-fits (w .node u h) n (ap isOut e))))
+      rw er (moved-kept w (is-answered t h (rw em (own u)) (ap exchanges e) refl (confirmed-fits (w .node u h) n (ap isOut e))))
   act-kept t h (goes p u n em e er) =
       let h : u < length (s .nodes) = rw em at h in
-      rw er (moved-kept w (is-answered t h (rw em (own u)) (ap dealings e) refl (out-fits (w .node u h))))
+      rw er (moved-kept w (is-answered t h (rw em (own u)) (ap exchanges e) refl (out-fits (w .node u h))))
   act-kept t h (stays-out p u em e er) =
       let h : u < length (s .nodes) = rw em at h in
-      rw er (moved-kept w (is-answered t h (rw em (own u)) (ap dealings e) refl (out-fits (w .node u h))))
+      rw er (moved-kept w (is-answered t h (rw em (own u)) (ap exchanges e) refl (out-fits (w .node u h))))
   act-kept t h (stays-in p u em e er) =
       let h : u < length (s .nodes) = rw em at h in
       let f = w .node u h in
       let has-number = not-left (not (isInOrDel (statusAt s u))) (numbered (nodeAt s u .rseq)) (ap (λ x. not (isInOrDel x)) e) (f .seq) in
-      rw er (moved-kept w (is-answered t h (rw em (own u)) (ap dealings e) refl (status-fits f In (ap isOut e) has-number)))
+      rw er (moved-kept w (is-answered t h (rw em (own u)) (ap exchanges e) refl (status-fits f In (ap isOut e) has-number)))
   act-kept {m} t h (takes p u a n em o new er) =
       let a-in : ltb a (length (s .nodes)) ≡ true = rw em at (message-facts (length (s .nodes)) m (w .message m (t .waits)) .kind) in
       let h : u < length (s .nodes) = rw em at h in

@@ -11,9 +11,9 @@ use native.Mathlib.Decide.{ℕ-discrete}
 use lib.ListN.{length, getD}
 use lib.Dec.{ltb}
 use borrow.Author.Tests.{ltb-true, ltb-false, eq-eqb, not-true}
-use Rattle.truth.specs.Tests.{bit, count}
-use Rattle.truth.proofs.Laws.{true-is-not-false}
-use Rattle.truth.proofs.TestLaws.{decided, holds, is-true, count-append}
+use Rattle.predicates.specs.Tests.{bit, count}
+use Rattle.predicates.proofs.Laws.{true-is-not-false}
+use Rattle.predicates.proofs.TestLaws.{decided, holds, is-true, count-append}
 use Rattle.sequence.specs.Sequence.{Number, nextSeq, cappedNext}
 use Rattle.parts.specs.declared.Kind.{Kind}
 use Rattle.parts.specs.declared.Kind.the-variants.{SetR, SetRAck, SetRNak, SetL}
@@ -23,13 +23,13 @@ use Rattle.node.specs.Actions.{setR, setRAck, setRNak, setL, wouldGrant}
 use Rattle.node.proofs.FitLaws.{message-facts}
 use Rattle.protocol.specs.declared.Call.{Call}
 use Rattle.protocol.specs.declared.Call.the-variants.{Deliver}
-use Rattle.protocol.specs.State.{State, queueLimit, nodeAt, statusAt, isDealingOf, wellFormed}
+use Rattle.protocol.specs.State.{State, queueLimit, nodeAt, statusAt, isExchangeOf, wellFormed}
 use Rattle.parts.specs.Tests.{isRequest}
 use Rattle.protocol.specs.Calls.{Result, isFull, messageAt, isGrantable, applyOf}
 use Rattle.protocol.specs.Answer.{accepted}
 use Rattle.protocol.specs.Claim.{Delivers, delivered, load, Lively, SteadyClaim}
-use Rattle.protocol.proofs.Waiting.{dealings-most, Taken, taken}
-use Rattle.protocol.proofs.Facts.{WellFormed, formed, tested}
+use Rattle.protocol.proofs.Waiting.{exchanges-most, Taken, taken}
+use Rattle.protocol.proofs.Facts.{WellFormed, well-formed, tested}
 use Rattle.protocol.proofs.Changes.{Act, drops, lets-in, lets-go, denies, joins, goes, stays-out, stays-in, takes, ignores}
 use Rattle.protocol.proofs.Changes.{Accepted, declares, creates, asks, goes-alone, leaves, delivers, Change, refuses, accepts}
 use Rattle.protocol.proofs.Refusals.{act-accepted}
@@ -111,30 +111,30 @@ total-most f zero h = omega arith
 total-most f (suc n) h = omega (arith, total-most f n (λ u k. h u (omega arith)), h n (omega arith))
 
 -- ---- each node has at most one request waiting, so there are no more requests than nodes
-request-is-dealing : (m : Message) → bit (isRequest (m .kind)) ≤ bit (isDealingOf (m .sender) m)
-request-is-dealing m = rw (eq-eqb (m .sender) (m .sender) refl) (go (isRequest (m .kind)) _)
+request-is-exchange : (m : Message) → bit (isRequest (m .kind)) ≤ bit (isExchangeOf (m .sender) m)
+request-is-exchange m = rw (eq-eqb (m .sender) (m .sender) refl) (go (isRequest (m .kind)) _)
   where
     go : (b c : Bool) → bit b ≤ bit ((b && true) || c)
     go true c = omega arith
     go false c = omega arith
 
-requests-are-dealings : (n : ℕ) (ms : List Message) → AllFit n ms → count (λ m. isRequest (m .kind)) ms ≤ total (λ u. count (isDealingOf u) ms) n
-requests-are-dealings n [] f = omega arith
-requests-are-dealings n (m ∷ ms) f =
+requests-are-exchanges : (n : ℕ) (ms : List Message) → AllFit n ms → count (λ m. isRequest (m .kind)) ms ≤ total (λ u. count (isExchangeOf u) ms) n
+requests-are-exchanges n [] f = omega arith
+requests-are-exchanges n (m ∷ ms) f =
     let from = ltb-true (m .sender) n (message-facts n m (f m (here refl)) .sender) in
     omega (
       arith,
-      request-is-dealing m,
-      total-one (λ u. bit (isDealingOf u m)) n (m .sender) from,
-      total-sum (λ u. bit (isDealingOf u m)) (λ u. count (isDealingOf u) ms) n,
-      requests-are-dealings n ms (λ x i. f x (there i)),
+      request-is-exchange m,
+      total-one (λ u. bit (isExchangeOf u m)) n (m .sender) from,
+      total-sum (λ u. bit (isExchangeOf u m)) (λ u. count (isExchangeOf u) ms) n,
+      requests-are-exchanges n ms (λ x i. f x (there i)),
     )
 
 few-requests : {s : State} → WellFormed s → count (λ m. isRequest (m .kind)) (s .messages) ≤ length (s .nodes)
 few-requests {s} w = omega (
   arith,
-  requests-are-dealings (length (s .nodes)) (s .messages) (w .message),
-  total-most (λ u. count (isDealingOf u) (s .messages)) (length (s .nodes)) (λ u k. omega (arith, w .dealing u k, dealings-most (statusAt s u))),
+  requests-are-exchanges (length (s .nodes)) (s .messages) (w .message),
+  total-most (λ u. count (isExchangeOf u) (s .messages)) (length (s .nodes)) (λ u k. omega (arith, w .exchange u k, exchanges-most (statusAt s u))),
 )
 
 -- ---- so of a full queue some message is not a request
@@ -190,5 +190,5 @@ lively s w = record { progress = progress s w; bound = bound s }
 
 pub steady : SteadyClaim
 steady s t =
-    let w = formed s (is-true (wellFormed s) t) in
+    let w = well-formed s (is-true (wellFormed s) t) in
     record { kept = λ call. holds (tested _ (kept w (change s call))); lively = lively s w }

@@ -8,12 +8,12 @@ use lib.ListN.{length}
 use lib.Dec.{T}
 use lib.Pow.{pow-mono}
 use lib.Count.{ones}
-use Rattle.truth.specs.Tests.{bit}
-use Rattle.truth.proofs.TestLaws.{is-true}
-use Rattle.truth.proofs.WordLaws.{word-fits, word-ones, word-bit, word-past}
+use Rattle.predicates.specs.Tests.{bit}
+use Rattle.predicates.proofs.TestLaws.{is-true}
+use Rattle.predicates.proofs.WordLaws.{word-fits, word-ones, word-bit, word-past}
 use Rattle.protocol.specs.State.{State, wellFormed, inserted}
 use Rattle.protocol.specs.Questions.{insertedWord, insertedCount}
-use Rattle.protocol.proofs.Facts.{formed}
+use Rattle.protocol.proofs.Facts.{well-formed}
 
 -- ---- each bit
 pub member-bit : (s : State) (u : ℕ) → u < length (s .nodes) → insertedWord s / 2 ^ u % 2 ≡ bit (inserted s u)
@@ -28,4 +28,4 @@ size-is-ones s = word-ones (length (s .nodes)) (inserted s)
 
 -- ---- "one 32-bit word"
 pub word-fits-32 : (s : State) → T (wellFormed s) → insertedWord s < 2 ^ 32
-word-fits-32 s w = lt-of-lt-of-le (word-fits (length (s .nodes)) (inserted s)) (pow-mono (formed s (is-true _ w) .few-nodes))
+word-fits-32 s w = lt-of-lt-of-le (word-fits (length (s .nodes)) (inserted s)) (pow-mono (well-formed s (is-true _ w) .few-nodes))

@@ -1,5 +1,5 @@
 -- What leaves a network well formed: one node is set anew, fits and keeps its key, while the messages that then wait fit and no node has
--- more dealings than its status allows; or one node is declared, and has no dealings, since no message concerns it. Each is shown once
+-- more exchanges than its status allows; or one node is declared, and has no exchanges, since no message concerns it. Each is shown once
 -- here, for the calls in `Kept`. Assumes nothing.
 use mathlib.Core.Path.{_≡_, refl, sym, ap, _∙_}
 use mathlib.Core.Logic.{⊎-elim, _≢_}
@@ -10,15 +10,15 @@ use native.Mathlib.Omega.{arith}
 use native.Mathlib.Decide.{ℕ-discrete}
 use lib.ListN.{length, set, length-append, length-set}
 use borrow.Author.Tests.{ltb-true, ne-eqb}
-use Rattle.truth.specs.Tests.{count}
-use Rattle.truth.proofs.Laws.{and-false}
-use Rattle.truth.proofs.TestLaws.{_∈_, bit-false}
+use Rattle.predicates.specs.Tests.{count}
+use Rattle.predicates.proofs.Laws.{and-false}
+use Rattle.predicates.proofs.TestLaws.{_∈_, bit-false}
 use Rattle.parts.specs.declared.Message.{Message}
 use Rattle.parts.specs.Shape.{messageFits}
 use Rattle.node.specs.declared.Node.{Node}
 use Rattle.node.specs.Shape.{declaredOf}
 use Rattle.node.proofs.FitLaws.{NodeFits, message-facts, PostsFit, fits-more, message-fits-more}
-use Rattle.protocol.specs.State.{State, queueLimit, nodeAt, statusAt, keyAt, isDealingOf, dealings}
+use Rattle.protocol.specs.State.{State, queueLimit, nodeAt, statusAt, keyAt, isExchangeOf, exchanges}
 use Rattle.protocol.specs.Calls.{declaring}
 use Rattle.protocol.proofs.Nodes.{At, unchanged, set-at, declared-at}
 use Rattle.protocol.proofs.Fields.{keyOf}
@@ -43,8 +43,8 @@ pub record Moves (s : State) (i : ℕ) (x : Node) (ms : List Message) : Type 0 w
   pub fits : NodeFits (length (s .nodes)) x
   pub few : length ms ≤ queueLimit
   pub messages : AllFit (length (s .nodes)) ms
-  pub dealing : count (isDealingOf i) ms ≤ dealings (x .status)
-  pub others : (u : ℕ) → u ≢ i → count (isDealingOf u) ms ≤ count (isDealingOf u) (s .messages)
+  pub exchange : count (isExchangeOf i) ms ≤ exchanges (x .status)
+  pub others : (u : ℕ) → u ≢ i → count (isExchangeOf u) ms ≤ count (isExchangeOf u) (s .messages)
 
 pub moved-kept : {s : State} {i : ℕ} {x : Node} {ms : List Message} → WellFormed s → Moves s i x ms → WellFormed (record { nodes = set (s .nodes) i x; messages = ms })
 moved-kept {s} {i} {x} {ms} w h = record {
@@ -52,7 +52,7 @@ moved-kept {s} {i} {x} {ms} w h = record {
   few-messages = h .few;
   node = λ u k. rw size (node u (ℕ-discrete u i) (rw size at k));
   keys = λ u v k j e. w .keys u v (rw size at k) j (sym (key v) ∙ e ∙ key u);
-  dealing = λ u k. dealing u (ℕ-discrete u i) (rw size at k);
+  exchange = λ u k. exchange u (ℕ-discrete u i) (rw size at k);
   message = λ m j. rw size (h .messages m j);
 }
   where
@@ -72,18 +72,18 @@ moved-kept {s} {i} {x} {ms} w h = record {
     key : (u : ℕ) → keyAt after u ≡ keyAt s u
     key = unchanged at keyOf (h .key)
 
-    dealing : (u : ℕ) → Dec (u ≡ i) → u < length (s .nodes) → count (isDealingOf u) ms ≤ dealings (statusAt after u)
-    dealing u (yes e) k = rw e (omega (arith, h .dealing, ap (λ (n : Node). dealings (n .status)) (at .self)))
-    dealing u (no d) k = omega (arith, h .others u d, w .dealing u k, ap (λ (n : Node). dealings (n .status)) (at .others u d))
+    exchange : (u : ℕ) → Dec (u ≡ i) → u < length (s .nodes) → count (isExchangeOf u) ms ≤ exchanges (statusAt after u)
+    exchange u (yes e) k = rw e (omega (arith, h .exchange, ap (λ (n : Node). exchanges (n .status)) (at .self)))
+    exchange u (no d) k = omega (arith, h .others u d, w .exchange u k, ap (λ (n : Node). exchanges (n .status)) (at .others u d))
 
 -- ---- a number that is not declared: no message concerns it
-pub unconcerned : (n u : ℕ) → n ≤ u → (ms : List Message) → AllFit n ms → count (isDealingOf u) ms ≡ 0
+pub unconcerned : (n u : ℕ) → n ≤ u → (ms : List Message) → AllFit n ms → count (isExchangeOf u) ms ≡ 0
 unconcerned n u le [] f = refl
 unconcerned n u le (m ∷ ms) f =
     let facts = message-facts n m (f m (here refl)) in
     let from = ne-eqb (m .sender) u (λ e. omega (arith, ltb-true (m .sender) n (facts .sender))) in
     let to = ne-eqb (m .to) u (λ e. omega (arith, ltb-true (m .to) n (facts .to))) in
-    let not-its : isDealingOf u m ≡ false = simp (from, to, and-false) in
+    let not-its : isExchangeOf u m ≡ false = simp (from, to, and-false) in
     omega (arith, bit-false not-its, unconcerned n u le ms (λ x i. f x (there i)))
 
 -- ---- a node is declared
@@ -93,7 +93,7 @@ declare-kept {s} {key} w h = record {
   few-messages = w .few-messages;
   node = λ u k. rw size (node u (rw size at k) (ℕ-discrete u (length (s .nodes))));
   keys = λ u v k j. keys u v (rw size at k) j (ℕ-discrete u (length (s .nodes)));
-  dealing = λ u k. dealing u (rw size at k) (ℕ-discrete u (length (s .nodes)));
+  exchange = λ u k. exchange u (rw size at k) (ℕ-discrete u (length (s .nodes)));
   message = λ m i. rw size (message-fits-more more m (w .message m i));
 }
   where
@@ -125,8 +125,8 @@ declare-kept {s} {key} w h = record {
         let below : u < length (s .nodes) = omega arith in
         λ same. w .keys u v below j (sym (ap keyOf (old v (omega arith))) ∙ same ∙ ap keyOf (old u below))
 
-    dealing : (u : ℕ) → u < suc (length (s .nodes)) → Dec (u ≡ length (s .nodes)) → count (isDealingOf u) (s .messages) ≤ dealings (statusAt after u)
-    dealing u k (yes e) = rw e (omega (arith, unconcerned (length (s .nodes)) (length (s .nodes)) (omega arith) (s .messages) (w .message)))
-    dealing u k (no d) =
+    exchange : (u : ℕ) → u < suc (length (s .nodes)) → Dec (u ≡ length (s .nodes)) → count (isExchangeOf u) (s .messages) ≤ exchanges (statusAt after u)
+    exchange u k (yes e) = rw e (omega (arith, unconcerned (length (s .nodes)) (length (s .nodes)) (omega arith) (s .messages) (w .message)))
+    exchange u k (no d) =
         let below : u < length (s .nodes) = omega arith in
-        omega (arith, w .dealing u below, ap (λ (x : Node). dealings (x .status)) (old u below))
+        omega (arith, w .exchange u below, ap (λ (x : Node). exchanges (x .status)) (old u below))

@@ -7,7 +7,7 @@ use mathlib.Core.Bool.{Bool, true, false}
 use mathlib.Core.List.{List}
 use Prim.Native.Nat.{ℕ}
 use native.Mathlib.Decide.{ℕ-discrete}
-use Rattle.truth.proofs.TestLaws.{_∈_, holds, is-true, not-both}
+use Rattle.predicates.proofs.TestLaws.{_∈_, holds, is-true, not-both}
 use Rattle.sequence.specs.Sequence.{Number, newer}
 use Rattle.sequence.proofs.Laws.{Newer, newer-total}
 use Rattle.parts.specs.declared.Status.the-variants.{Ins}
@@ -17,7 +17,7 @@ use Rattle.parts.specs.declared.Message.{Message}
 use Rattle.node.specs.declared.Node.{Node}
 use Rattle.node.specs.Actions.{setR, setL, leftSet}
 use Rattle.protocol.proofs.Nodes.{At, unchanged}
-use Rattle.protocol.proofs.Waiting.{Taken, taken-out, Dealt, request-deals, no-ack, acks-left}
+use Rattle.protocol.proofs.Waiting.{Taken, taken-out, Limited, request-exchange, no-ack, acks-left}
 use Rattle.protocol.proofs.Fields.{statusOf, keyOf, leftOf, rightOf, lseqOf, rseqOf, kindOf, toOf}
 use Rattle.protocol.proofs.Invariant.{isMember, Request, LeftLink, Invariant}
 use Rattle.protocol.proofs.Frames.{member-same, request-same, keeps-same, left-same, same-order}
@@ -26,16 +26,16 @@ same-number : {w u a n p i b k : ℕ} → setL w u a n ≡ setL p i b k → n �
 same-number {a} {n} {b} {k} e = let f : SetL a n ≡ SetL b k = ap kindOf e in cc
 
 module _ {N N′ : ℕ → Node} {M rest : List Message} {told joins : ℕ → Bool} {p i a n : ℕ} {x : Node}
-    (dealt : Dealt N M) (inv : Invariant N M told joins) (t : Taken M (setL p i a n) rest) (at : At N i x N′) where
+    (limited : Limited N M) (inv : Invariant N M told joins) (t : Taken M (setL p i a n) rest) (at : At N i x N′) where
   -- node i keeps all but its left link and number; what is left to show is about that link
   heard : x .status ≡ N i .status → x .key ≡ N i .key → x .right ≡ N i .right → x .rseq ≡ N i .rseq
       → ((v : ℕ) (R : Number) → LeftLink N M v i R → LeftLink N′ rest v i R) → Invariant N′ rest told joins
   heard st key right rseq link = record {
-    dealings = record {
-      joiners = λ u h. inv .dealings .joiners u (sym (status u) ∙ h);
-      leavers = λ u h. inv .dealings .leavers u (sym (status u) ∙ h);
+    exchanges = record {
+      joiners = λ u h. inv .exchanges .joiners u (sym (status u) ∙ h);
+      leavers = λ u h. inv .exchanges .leavers u (sym (status u) ∙ h);
       requests = λ v q new e k j. request v q new e k j (ℕ-discrete v i);
-      quiet = λ w u b k h f j. inv .dealings .quiet w u b k (sym (status u) ∙ h) (sym (member u) ∙ f) (t .left _ j);
+      quiet = λ w u b k h f j. inv .exchanges .quiet w u b k (sym (status u) ∙ h) (sym (member u) ∙ f) (t .left _ j);
     };
     order = same-order (record {
       member = member;
@@ -59,7 +59,7 @@ module _ {N N′ : ℕ → Node} {M rest : List Message} {told joins : ℕ → B
       not-joiner : (q new e k : ℕ) → setR i q new e k ∈ M → N i .status ≢ Ins
       not-joiner q new e k j h =
           let (others, s) = taken-out j in
-          inv .dealings .quiet p i a n h (member-same h (no-ack dealt i s (request-deals i q new e k) refl)) (t .waits)
+          inv .exchanges .quiet p i a n h (member-same h (no-ack limited i s (request-exchange i q new e k) refl)) (t .waits)
 
       request : (v q new e k : ℕ) → setR v q new e k ∈ rest → Dec (v ≡ i) → Request N′ v q new e k
       request v q new e k j (yes d) = rw d (own (rw d at (t .left _ j)))
@@ -67,7 +67,7 @@ module _ {N N′ : ℕ → Node} {M rest : List Message} {told joins : ℕ → B
           own : setR i q new e k ∈ M → Request N′ i q new e k
           own j = record {
             by-joiner = λ h. absurd (not-joiner q new e k j (sym (status i) ∙ h));
-            by-leaver = λ h. let b = inv .dealings .requests i q new e k j .by-leaver (sym (status i) ∙ h) in
+            by-leaver = λ h. let b = inv .exchanges .requests i q new e k j .by-leaver (sym (status i) ∙ h) in
                 record {
                   right = unchanged at rightOf right i ∙ b .right;
                   another = b .another;
@@ -75,7 +75,7 @@ module _ {N N′ : ℕ → Node} {M rest : List Message} {told joins : ℕ → B
                   number = λ l f. b .number l (sym (unchanged at rseqOf rseq i) ∙ f);
                 };
           }
-      request v q new e k j (no d) = request-same (at .others v d) (keys q) (keys e) (inv .dealings .requests v q new e k (t .left _ j))
+      request v q new e k j (no d) = request-same (at .others v d) (keys q) (keys e) (inv .exchanges .requests v q new e k (t .left _ j))
 
       lefts : (v u : ℕ) (R : Number) → LeftLink N M v u R → Dec (u ≡ i) → LeftLink N′ rest v u R
       lefts v u R k (yes d) = rw d (link v R (rw d at k))
@@ -84,9 +84,9 @@ module _ {N N′ : ℕ → Node} {M rest : List Message} {told joins : ℕ → B
           (λ w b l j. ⊎-elim (λ e. absurd (d (ap toOf e))) (λ r. r) (t .either _ j)) k
 
 -- "if its number is greater than the left number, take both"
-pub takes-kept : {N N′ : ℕ → Node} {M rest : List Message} {told joins : ℕ → Bool} {p i a n : ℕ} → Dealt N M → Invariant N M told joins
+pub takes-kept : {N N′ : ℕ → Node} {M rest : List Message} {told joins : ℕ → Bool} {p i a n : ℕ} → Limited N M → Invariant N M told joins
     → Taken M (setL p i a n) rest → newer n (N i .lseq) ≡ true → At N i (leftSet (N i) a n) N′ → Invariant N′ rest told joins
-takes-kept {N} {N′} {M} {rest} {p = p} {i} {a} {n} dealt inv t new at = heard dealt inv t at refl refl refl refl link
+takes-kept {N} {N′} {M} {rest} {p = p} {i} {a} {n} limited inv t new at = heard limited inv t at refl refl refl refl link
   where
     lseq : N′ i .lseq ≡ n
     lseq = ap lseqOf (at .self)
@@ -96,16 +96,16 @@ takes-kept {N} {N′} {M} {rest} {p = p} {i} {a} {n} dealt inv t new at = heard 
       reached = rw lseq (k .noticed p a n (t .waits));
       noticed = λ w b l j. k .noticed w b l (t .left _ j);
       named = λ w b j. k .named w b (t .left _ j);
-      settled = λ e. ap leftOf (at .self) ∙ ap To (k .named p a (rw (sym lseq ∙ e) at (t .waits)));
+      current = λ e. ap leftOf (at .self) ∙ ap To (k .named p a (rw (sym lseq ∙ e) at (t .waits)));
       awaited = λ d.
           let (w, b, j) = k .awaited (λ e. k .noticed p a n (t .waits) (rw e at (holds new))) in
           (w, b, ⊎-elim (λ e. absurd (d (lseq ∙ sym (same-number e)))) (λ l. l) (t .either _ j));
     }
 
 -- "else nothing"
-pub ignores-kept : {N N′ : ℕ → Node} {M rest : List Message} {told joins : ℕ → Bool} {p i a n : ℕ} → Dealt N M → Invariant N M told joins
+pub ignores-kept : {N N′ : ℕ → Node} {M rest : List Message} {told joins : ℕ → Bool} {p i a n : ℕ} → Limited N M → Invariant N M told joins
     → Taken M (setL p i a n) rest → newer n (N i .lseq) ≡ false → At N i (N i) N′ → Invariant N′ rest told joins
-ignores-kept {N} {N′} {M} {rest} {p = p} {i} {a} {n} dealt inv t old at = heard dealt inv t at refl refl refl refl link
+ignores-kept {N} {N′} {M} {rest} {p = p} {i} {a} {n} limited inv t old at = heard limited inv t at refl refl refl refl link
   where
     lseq : N′ i .lseq ≡ N i .lseq
     lseq = ap lseqOf (at .self)
@@ -122,7 +122,7 @@ ignores-kept {N} {N′} {M} {rest} {p = p} {i} {a} {n} dealt inv t old at = hear
       reached = rw lseq (k .reached);
       noticed = λ w b l j. k .noticed w b l (t .left _ j);
       named = λ w b j. k .named w b (t .left _ j);
-      settled = λ e. ap leftOf (at .self) ∙ k .settled (sym lseq ∙ e);
+      current = λ e. ap leftOf (at .self) ∙ k .current (sym lseq ∙ e);
       awaited = λ d.
           let (w, b, j) = k .awaited (λ e. d (lseq ∙ e)) in
           (w, b, ⊎-elim (λ e. absurd (late R (k .reached) (λ f. d (lseq ∙ f)) (same-number e))) (λ l. l) (t .either _ j));

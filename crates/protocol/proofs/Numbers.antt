@@ -7,7 +7,7 @@ use mathlib.Core.List.{List, [], _∷_, _++_}
 use Prim.Native.Nat.{ℕ, _<_}
 use native.Mathlib.Decide.{ℕ-discrete}
 use lib.ListN.{length}
-use Rattle.truth.proofs.TestLaws.{_∈_, all-pass, below-all}
+use Rattle.predicates.proofs.TestLaws.{_∈_, all-pass, below-all}
 use Rattle.sequence.specs.Sequence.{isSeq, nextSeq, cappedNext}
 use Rattle.sequence.proofs.Laws.{first-fits, next-fits, capped-fits}
 use Rattle.parts.specs.declared.Message.{Message}

@@ -7,8 +7,8 @@ use mathlib.Core.List.{List, [], _∷_, _++_, Memᴰ·append-left as in-left}
 use Prim.Native.Nat.{ℕ}
 use native.Mathlib.Decide.{ℕ-discrete}
 use borrow.Author.Tests.{eq-eqb}
-use Rattle.truth.specs.Tests.{any}
-use Rattle.truth.proofs.TestLaws.{_∈_, not-both, none-in, not-any}
+use Rattle.predicates.specs.Tests.{any}
+use Rattle.predicates.proofs.TestLaws.{_∈_, not-both, none-in, not-any}
 use Rattle.interval.proofs.Laws.{Between}
 use Rattle.sequence.specs.Sequence.{Number, nextSeq}
 use Rattle.parts.specs.declared.Status.{Status}
@@ -21,10 +21,10 @@ use Rattle.node.specs.declared.Node.{Node}
 use Rattle.node.specs.declared.Peer.{Peer}
 use Rattle.node.specs.Shape.{declaredOf}
 use Rattle.node.specs.Actions.{setR, setRAck, setL, withStatus, joining}
-use Rattle.protocol.specs.State.{isAckTo, isNoticeTo, dealings, isInserted}
+use Rattle.protocol.specs.State.{isAckTo, isNoticeTo, exchanges, isInserted}
 use Rattle.parts.specs.Tests.{isNotice, isAck}
 use Rattle.protocol.proofs.Nodes.{At, unchanged}
-use Rattle.protocol.proofs.Waiting.{Dealt, apart, in-one as in-posted, same-any, request-deals, not-ack, no-dealing}
+use Rattle.protocol.proofs.Waiting.{Limited, apart, in-one as in-posted, same-any, request-exchange, not-ack, no-exchange}
 use Rattle.protocol.proofs.Fields.{statusOf, keyOf, leftOf, rightOf, lseqOf, rseqOf, kindOf, toOf, senderOf}
 use Rattle.protocol.proofs.Invariant.{isMember, Member, Request, Keeps, stored, coming, Invariant}
 use Rattle.protocol.proofs.Frames.{settled-in, ins-not-del, member-same, member-not-out, request-same, keeps-same, left-same, same-order}
@@ -34,12 +34,12 @@ use Rattle.protocol.proofs.Frames.{settled-in, ins-not-del, member-same
 pub declares-kept : {N N′ : ℕ → Node} {M : List Message} {told joins : ℕ → Bool} {i key : ℕ} → Invariant N M told joins → N i .status ≡ Out
     → ((v p new e : ℕ) (n : Number) → setR v p new e n ∈ M → (v ≢ i) × (p ≢ i) × (e ≢ i)) → At N i (declaredOf key) N′ → Invariant N′ M told joins
 declares-kept {N} {N′} {M} {i = i} inv out known at = record {
-  dealings = record {
-    joiners = λ u h. inv .dealings .joiners u (sym (status u) ∙ h);
-    leavers = λ u h. inv .dealings .leavers u (sym (status u) ∙ h);
+  exchanges = record {
+    joiners = λ u h. inv .exchanges .joiners u (sym (status u) ∙ h);
+    leavers = λ u h. inv .exchanges .leavers u (sym (status u) ∙ h);
     requests = λ v p new e n j. let (dv, dp, de) = known v p new e n j in
-        request-same (at .others v dv) (ap keyOf (at .others p dp)) (ap keyOf (at .others e de)) (inv .dealings .requests v p new e n j);
-    quiet = λ w u a n h f j. inv .dealings .quiet w u a n (sym (status u) ∙ h) (sym (member u) ∙ f) j;
+        request-same (at .others v dv) (ap keyOf (at .others p dp)) (ap keyOf (at .others e de)) (inv .exchanges .requests v p new e n j);
+    quiet = λ w u a n h f j. inv .exchanges .quiet w u a n (sym (status u) ∙ h) (sym (member u) ∙ f) j;
   };
   order = same-order (record {
     member = member;
@@ -79,10 +79,10 @@ one-more {N} {M} {i} {p} {new} {e} {n} old own v q b d k j = ⊎-elim (λ l. old
 asked-acks : (M : List Message) (i p new e n u : ℕ) → any (isAckTo u) (M ++ setR i p new e n ∷ []) ≡ any (isAckTo u) M
 asked-acks M i p new e n u = same-any (isAckTo u) _ M (λ y a j. ⊎-elim (λ k. k) (λ d. absurd (apart (isAckTo u) a refl d)) (in-posted M j)) (λ y _ j. in-left _ j)
 
--- a node that had no dealing posts a request; if it is inserted it keeps its links and numbers
+-- a node that had no exchange posts a request; if it is inserted it keeps its links and numbers
 record Asks (N N′ : ℕ → Node) (M : List Message) (joins joins′ : ℕ → Bool) (i p new e n : ℕ) (x : Node) : Type 0 where
   at : At N i x N′
-  idle : dealings (N i .status) ≡ 0
+  idle : exchanges (N i .status) ≡ 0
   key : x .key ≡ N i .key
   other-joins : (u : ℕ) → u ≢ i → joins′ u ≡ joins u
   joiner : x .status ≡ Ins → joins′ i ≡ true
@@ -95,12 +95,12 @@ record Asks (N N′ : ℕ → Node) (M : List Message) (joins joins′ : ℕ →
   keeps : (R : ℕ) → Member N M i → Keeps N′ M i R → Keeps N M i R
 
 asked : {N N′ : ℕ → Node} {M : List Message} {told joins joins′ : ℕ → Bool} {i p new e n : ℕ} {x : Node}
-    → Dealt N M → Invariant N M told joins → Asks N N′ M joins joins′ i p new e n x → Invariant N′ (M ++ setR i p new e n ∷ []) told joins′
-asked {N} {N′} {M} {joins = joins} {joins′} {i} {p} {new} {e} {n} {x} dealt inv a = record {
-  dealings = record {
+    → Limited N M → Invariant N M told joins → Asks N N′ M joins joins′ i p new e n x → Invariant N′ (M ++ setR i p new e n ∷ []) told joins′
+asked {N} {N′} {M} {joins = joins} {joins′} {i} {p} {new} {e} {n} {x} limited inv a = record {
+  exchanges = record {
     joiners = λ u h. joined u h (ℕ-discrete u i);
     leavers = λ u h. left-to-go u h (ℕ-discrete u i);
-    requests = one-more (λ v q b d k j. request-same (a .at .others v (not-own v q b d k j)) (keys q) (keys d) (inv .dealings .requests v q b d k j)) (a .request);
+    requests = one-more (λ v q b d k j. request-same (a .at .others v (not-own v q b d k j)) (keys q) (keys d) (inv .exchanges .requests v q b d k j)) (a .request);
     quiet = λ w u b k h f j. ⊎-elim (λ l. no-notice w u b k h f l (ℕ-discrete u i)) (λ d. apart (λ y. isNotice (y .kind)) refl refl d) (in-posted M j);
   };
   order = same-order (record {
@@ -124,14 +124,14 @@ asked {N} {N′} {M} {joins = joins} {joins′} {i} {p} {new} {e} {n} {x} dealt 
 
     joined : (u : ℕ) → N′ u .status ≡ Ins → Dec (u ≡ i) → joins′ u ≡ true
     joined u h (yes d) = ap joins′ d ∙ a .joiner (own-status d h)
-    joined u h (no d) = a .other-joins u d ∙ inv .dealings .joiners u (sym (status u d) ∙ h)
+    joined u h (no d) = a .other-joins u d ∙ inv .exchanges .joiners u (sym (status u d) ∙ h)
 
     left-to-go : (u : ℕ) → N′ u .status ≡ Del → Dec (u ≡ i) → joins′ u ≡ false
     left-to-go u h (yes d) = ap joins′ d ∙ a .leaver (own-status d h)
-    left-to-go u h (no d) = a .other-joins u d ∙ inv .dealings .leavers u (sym (status u d) ∙ h)
+    left-to-go u h (no d) = a .other-joins u d ∙ inv .exchanges .leavers u (sym (status u d) ∙ h)
 
     not-own : (v q b d k : ℕ) → setR v q b d k ∈ M → v ≢ i
-    not-own v q b d k j f = not-both (request-deals v q b d k) (rw (← f) at (no-dealing dealt i (a .idle) j))
+    not-own v q b d k j f = not-both (request-exchange v q b d k) (rw (← f) at (no-exchange limited i (a .idle) j))
 
     member : (u : ℕ) → isMember N′ (M ++ setR i p new e n ∷ []) u ≡ isMember N M u
     member u = ap (λ b. isInserted (N′ u .status) b) (asked-acks M i p new e n u) ∙ go (ℕ-discrete u i)
@@ -142,7 +142,7 @@ asked {N} {N′} {M} {joins = joins} {joins′} {i} {p} {new} {e} {n} {x} dealt 
 
     no-notice : (w u b k : ℕ) → N′ u .status ≡ Ins → isMember N′ (M ++ setR i p new e n ∷ []) u ≡ false → setL w u b k ∈ M → Dec (u ≡ i) → ⊥
     no-notice w u b k h f j (yes d) = a .no-notice w b k (own-status d h) (rw d at j)
-    no-notice w u b k h f j (no d) = inv .dealings .quiet w u b k (sym (status u d) ∙ h) (sym (member u) ∙ f) j
+    no-notice w u b k h f j (no d) = inv .exchanges .quiet w u b k (sym (status u d) ∙ h) (sym (member u) ∙ f) j
 
     at-member : {B : Type 0} (f : Node → B) → (Member N M i → f x ≡ f (N i)) → (u : ℕ) → Member N M u → Dec (u ≡ i) → f (N′ u) ≡ f (N u)
     at-member f same u m (yes d) = rw d (ap f (a .at .self) ∙ same (rw d at m))
@@ -156,16 +156,16 @@ asked {N} {N′} {M} {joins = joins} {joins′} {i} {p} {new} {e} {n} {x} dealt 
     keeps v R m k (no d) = keeps-same (status v d) (ap rseqOf (a .at .others v d)) (ack-before v R) k
 
 -- a node that is idle has no acknowledgement waiting
-idle-no-ack : {N : ℕ → Node} {M : List Message} → Dealt N M → (u : ℕ) → dealings (N u .status) ≡ 0 → any (isAckTo u) M ≡ false
-idle-no-ack {N} {M} dealt u e = not-any (isAckTo u) M (λ y j. not-ack u y (no-dealing dealt u e j))
+idle-no-ack : {N : ℕ → Node} {M : List Message} → Limited N M → (u : ℕ) → exchanges (N u .status) ≡ 0 → any (isAckTo u) M ≡ false
+idle-no-ack {N} {M} limited u e = not-any (isAckTo u) M (λ y j. not-ack u y (no-exchange limited u e j))
 
-module _ {N N′ : ℕ → Node} {M : List Message} {told joins joins′ : ℕ → Bool} (dealt : Dealt N M) (inv : Invariant N M told joins) (i : ℕ) (other-joins : (u : ℕ) → u ≢ i → joins′ u ≡ joins u) where
+module _ {N N′ : ℕ → Node} {M : List Message} {told joins joins′ : ℕ → Bool} (limited : Limited N M) (inv : Invariant N M told joins) (i : ℕ) (other-joins : (u : ℕ) → u ≢ i → joins′ u ≡ joins u) where
   -- "left p, right q, status ins; SetR(u, q, left number of u) to p"
   pub asks-kept : (p q : Peer) → N i .status ≡ Out → joins′ i ≡ true → any (isNoticeTo i) M ≡ false → Between (N (p .number) .key) (N (q .number) .key) (N i .key)
       → At N i (joining (N i) p q) N′ → Invariant N′ (M ++ setR i (p .number) i (q .number) (N i .lseq) ∷ []) told joins′
-  asks-kept p q out joins quiet between at = asked dealt inv (record {
+  asks-kept p q out joins quiet between at = asked limited inv (record {
     at = at;
-    idle = ap dealings out;
+    idle = ap exchanges out;
     key = refl;
     other-joins = other-joins;
     joiner = λ _. joins;
@@ -181,7 +181,7 @@ module _ {N N′ : ℕ → Node} {M : List Message} {told joins joins′ : ℕ �
       by-leaver = λ h. absurd (ins-not-del (sym (ap statusOf (at .self)) ∙ h));
     };
     no-notice = λ w a k _ j. not-both (eq-eqb i i refl) (none-in (isNoticeTo i) quiet j);
-    member = member-same (ap statusOf (at .self)) (idle-no-ack dealt i (ap dealings out)) ∙ sym (member-same out refl);
+    member = member-same (ap statusOf (at .self)) (idle-no-ack limited i (ap exchanges out)) ∙ sym (member-same out refl);
     right = λ m. absurd (not-both m (member-same out refl));
     left = λ m. absurd (not-both m (member-same out refl));
     keeps = λ R m. absurd (not-both m (member-same out refl));
@@ -193,9 +193,9 @@ module _ {N N′ : ℕ → Node} {M : List Message} {told joins joins′ : ℕ �
   -- "Else del, and SetR(right, u, right number + 1) to its left link"
   pub leaves-kept : (p q n : ℕ) → N i .status ≡ In → joins′ i ≡ false → N i .right ≡ To q → q ≢ i → N i .rseq ≡ Is n
       → At N i (withStatus Del (N i)) N′ → Invariant N′ (M ++ setR i p q i (nextSeq n) ∷ []) told joins′
-  leaves-kept p q n is-in joins right not-alone number at = asked dealt inv (record {
+  leaves-kept p q n is-in joins right not-alone number at = asked limited inv (record {
     at = at;
-    idle = ap dealings is-in;
+    idle = ap exchanges is-in;
     key = refl;
     other-joins = other-joins;
     joiner = λ e. absurd (ins-not-del (sym e));
@@ -210,7 +210,7 @@ module _ {N N′ : ℕ → Node} {M : List Message} {told joins joins′ : ℕ �
       };
     };
     no-notice = λ w a k e. absurd (ins-not-del (sym e));
-    member = member-same (ap statusOf (at .self)) (idle-no-ack dealt i (ap dealings is-in)) ∙ sym (member-same is-in refl);
+    member = member-same (ap statusOf (at .self)) (idle-no-ack limited i (ap exchanges is-in)) ∙ sym (member-same is-in refl);
     right = λ _. refl;
     left = λ _. (refl, refl);
     keeps = λ R _ k. keep R k;

@@ -11,10 +11,10 @@ use native.Mathlib.Omega.{arith}
 use lib.ListN.{length}
 use lib.Dec.{T}
 use borrow.Author.Tests.{lt-ltb, not-false}
-use Rattle.truth.proofs.Laws.{by-test}
-use Rattle.truth.proofs.TestLaws.{_∈_, holds, is-true, not-both}
+use Rattle.predicates.proofs.Laws.{by-test}
+use Rattle.predicates.proofs.TestLaws.{_∈_, holds, is-true, not-both}
 use Rattle.refusal.specs.Code.{Reason, plain}
-use Rattle.refusal.specs.Rules.{done, no, first, settled}
+use Rattle.refusal.specs.Rules.{done, no, first, unlessRefused}
 use Rattle.refusal.proofs.Laws.{cleared, Never, end, other, never}
 use Rattle.serial.specs.Serial.{inRange}
 use Rattle.interval.specs.Interval.{within}
@@ -97,9 +97,9 @@ inserted-declared s u t = declared-unless-out s u (member-not-out (nodeAt s) (s 
 none-refuses : (s : State) (start serial : ℕ) → wellFormed s ≡ true → declared s start ≡ true → inRange serial ≡ true → inserted s start ≡ true
     → ownerOf s start serial ≡ walked (ownerFrom s serial (length (s .nodes)) start 0)
 unfolding ownerOf
-none-refuses s start serial formed known ranged member = simp (formed, known, ranged, member)
+none-refuses s start serial well-formed known ranged member = simp (well-formed, known, ranged, member)
 
-module _ (s : State) (formed : T (wellFormed s)) {L : List ℕ} (ring : Ring (keyAt s) (rightAt s) L) (member : (u : ℕ) → (u ∈ L) ↔ Inserted s u) where
+module _ (s : State) (well-formed : T (wellFormed s)) {L : List ℕ} (ring : Ring (keyAt s) (rightAt s) L) (member : (u : ℕ) → (u ∈ L) ↔ Inserted s u) where
   -- no more members than hops allowed
   few-members : length L ≤ length (s .nodes)
   few-members = few-below (keyAt s) (length (s .nodes)) L (ring .ascending) (λ u i. inserted-declared s u (member u .0 i))
@@ -111,7 +111,7 @@ module _ (s : State) (formed : T (wellFormed s)) {L : List ℕ} (ring : Ring (ke
       let (k, few, meets) = reaches ring i (o .member) in
       let f = search s serial ring o (length (s .nodes)) start 0 k i (omega (arith, few, few-members)) meets in
       let known = lt-ltb start (length (s .nodes)) (inserted-declared s start t) in
-      let clear = none-refuses s start serial (is-true _ formed) known (is-true _ ranged) (is-true _ t) in
+      let clear = none-refuses s start serial (is-true _ well-formed) known (is-true _ ranged) (is-true _ t) in
       record {
         node = o .node;
         hops = f .added;
@@ -131,7 +131,7 @@ module _ (s : State) (formed : T (wellFormed s)) {L : List ℕ} (ring : Ring (ke
 pub owner-found : OwnerClaim
 owner-found calls =
     let g = good calls in
-    finds-owner (history calls .state) (holds (tested _ (g .formed))) (g .invariant .order .ring) (listed-inserted _ (g .invariant .order))
+    finds-owner (history calls .state) (holds (tested _ (g .well-formed))) (g .invariant .order .ring) (listed-inserted _ (g .invariant .order))
 
 -- the rules before the search give other numbers, and where none refuses the search finds
 pub always-found : AlwaysFound
@@ -144,7 +144,7 @@ always-found calls start serial e = go (first (ownerRules s start serial)) refl 
     never-31 : Never 31 (ownerRules s start serial)
     never-31 = other refl (λ _. other refl (λ _. other refl (λ _. other refl (λ _. end))))
 
-    go : (o : Option Reason) → first (ownerRules s start serial) ≡ o → settled o no (walked (ownerFrom s serial (length (s .nodes)) start 0)) ≡ no (plain 31) → ⊥
+    go : (o : Option Reason) → first (ownerRules s start serial) ≡ o → unlessRefused o no (walked (ownerFrom s serial (length (s .nodes)) start 0)) ≡ no (plain 31) → ⊥
     go none clear f =
         let (_, (_, (ranged, (member, _)))) = cleared (ownerRules s start serial) clear in
         let finds = owner-found calls start serial (holds (not-false (inserted s start) member)) (holds (not-false (inRange serial) ranged)) in

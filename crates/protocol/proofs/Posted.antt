@@ -8,9 +8,9 @@ use Prim.Native.Nat.{ℕ, _+_, _*_, _≤_}
 use native.Mathlib.Omega.{arith}
 use lib.ListN.{length, length-append}
 use lib.Dec.{T}
-use Rattle.truth.proofs.TestLaws.{is-true}
+use Rattle.predicates.proofs.TestLaws.{is-true}
 use Rattle.refusal.specs.Code.{Reason}
-use Rattle.refusal.specs.Rules.{no, _when_, first, settled}
+use Rattle.refusal.specs.Rules.{no, _when_, first, unlessRefused}
 use Rattle.parts.specs.declared.Message.{Message}
 use Rattle.protocol.specs.declared.Call.{Call}
 use Rattle.protocol.specs.declared.Order.the-variants.{Declare, Create, Join, Leave}
@@ -63,7 +63,7 @@ pub drain-refused-same : (s : State) (budget : ℕ) (r : Reason) → drainOf s b
 unfolding drainOf
 drain-refused-same s budget r e = go (first ((6 when not (wellFormed s)) ∷ [])) e
   where
-    go : (o : Option Reason) → settled o (refused s) (drained s (places budget s)) .said ≡ no r → settled o (refused s) (drained s (places budget s)) ≡ refused s r
+    go : (o : Option Reason) → unlessRefused o (refused s) (drained s (places budget s)) .said ≡ no r → unlessRefused o (refused s) (drained s (places budget s)) ≡ refused s r
     go none f = let z : _≡_ {A = ℕ} 0 1 = cc in absurd (omega arith)
     go (some n) f = let same : n ≡ r = cc in ap (refused s) same
 
@@ -84,7 +84,7 @@ unfolding applyOf
 posts-at-the-end s call = go (first (rulesOf s call)) (accepted-case s call)
   where
     go : (o : Option Reason) → (o ≡ none → Accepted s call (effectOf s call))
-        → let r = settled o (refused s) (effectOf s call) in r .state .messages ≡ remaining s call (r .said) ++ r .posts
+        → let r = unlessRefused o (refused s) (effectOf s call) in r .state .messages ≡ remaining s call (r .said) ++ r .posts
     go none a = posts-behind s call (is-true _ (accepted-said (a refl)))
     go (some r) a = remaining-refused s call r
 

@@ -9,9 +9,9 @@ use Prim.Native.Nat.{ℕ}
 use native.Mathlib.Omega.{arith}
 use lib.ListN.{length}
 use lib.Dec.{T}
-use Rattle.truth.proofs.TestLaws.{decided}
+use Rattle.predicates.proofs.TestLaws.{decided}
 use Rattle.refusal.specs.Code.{Reason, plain}
-use Rattle.refusal.specs.Rules.{no, first, settled}
+use Rattle.refusal.specs.Rules.{no, first, unlessRefused}
 use Rattle.refusal.proofs.Laws.{Never, end, other, fails, never}
 use Rattle.parts.specs.declared.Message.{Message}
 use Rattle.node.specs.Shape.{wellFormed as nodeIsSound, peerFits}
@@ -23,7 +23,7 @@ use Rattle.protocol.specs.State.{State, declared, nodeAt, wellFormed}
 use Rattle.protocol.specs.Calls.{Result, refused, peerAt, rulesOf, effectOf, applyOf}
 use Rattle.protocol.specs.Questions.{Walk, found, lost, walked, ownerFrom, ownerRules, ownerOf}
 use Rattle.protocol.specs.Answer.{accepted}
-use Rattle.protocol.proofs.Facts.{WellFormed, formed, tested}
+use Rattle.protocol.proofs.Facts.{WellFormed, well-formed, tested}
 use Rattle.protocol.proofs.Cases.{tested-below, accepted-case}
 use Rattle.protocol.proofs.Changes.{Act, drops, lets-in, lets-go, denies, joins, goes, stays-out, stays-in, takes, ignores}
 use Rattle.protocol.proofs.Changes.{Accepted, declares, creates, asks, goes-alone, leaves, delivers}
@@ -77,7 +77,7 @@ pub never-said : (s : State) (call : Call) {n : ℕ} → Never n (rulesOf s call
 unfolding applyOf
 never-said s call {n} t e = go (first (rulesOf s call)) refl e
   where
-    go : (o : Option Reason) → first (rulesOf s call) ≡ o → ¬ (settled o (refused s) (effectOf s call) .said ≡ no (plain n))
+    go : (o : Option Reason) → first (rulesOf s call) ≡ o → ¬ (unlessRefused o (refused s) (effectOf s call) .said ≡ no (plain n))
     go none clear f = let u : T false = rw f at (accepted-said (accepted-case s call clear)) in u
     go (some r) refuses f = let same : r ≡ plain n = cc in never t (refuses ∙ ap some same)
 
@@ -103,7 +103,7 @@ first-six s (Deliver place) e = rw e
 
 pub six : (s : State) (call : Call) → (applyOf s call .said ≡ no (plain 6)) ↔ (wellFormed s ≡ false)
 unfolding applyOf
-six s call = (λ e. ⊎-elim (λ t. absurd (never-said s call (never-six s (formed s t) call) e)) (λ f. f) (decided (wellFormed s)), λ f. rw (first-six s call f))
+six s call = (λ e. ⊎-elim (λ t. absurd (never-said s call (never-six s (well-formed s t) call) e)) (λ f. f) (decided (wellFormed s)), λ f. rw (first-six s call f))
 
 -- ---- nor is 6 said to a question for an owner of a well-formed network
 pub owner-never-six : (s : State) → WellFormed s → (start serial : ℕ) → ¬ (ownerOf s start serial ≡ no (plain 6))
@@ -117,7 +117,7 @@ owner-never-six s w start serial e = go (first (ownerRules s start serial)) refl
     walk (found u hops) f = let z : _≡_ {A = ℕ} 0 1 = cc in omega arith
     walk lost f = let z : _≡_ {A = ℕ} 31 6 = cc in omega arith
 
-    go : (o : Option Reason) → first (ownerRules s start serial) ≡ o → ¬ (settled o no (walked (ownerFrom s serial (length (s .nodes)) start 0)) ≡ no (plain 6))
+    go : (o : Option Reason) → first (ownerRules s start serial) ≡ o → ¬ (unlessRefused o no (walked (ownerFrom s serial (length (s .nodes)) start 0)) ≡ no (plain 6))
     go none clear f = walk (ownerFrom s serial (length (s .nodes)) start 0) f
     go (some r) refuses f =
         let same : r ≡ plain 6 = cc in

@@ -6,8 +6,8 @@ use mathlib.Core.List.{List, [], _∷_}
 use Prim.Native.Nat.{ℕ}
 use native.Mathlib.Decide.{ℕ-discrete}
 use borrow.Author.Tests.{eq-eqb}
-use Rattle.truth.specs.Tests.{any}
-use Rattle.truth.proofs.TestLaws.{_∈_, not-both, none-in}
+use Rattle.predicates.specs.Tests.{any}
+use Rattle.predicates.proofs.TestLaws.{_∈_, not-both, none-in}
 use Rattle.sequence.specs.Sequence.{Number, firstSeq}
 use Rattle.sequence.proofs.Laws.{newer-irreflexive}
 use Rattle.links.proofs.Ring.{here, in-nil, in-one}
@@ -20,22 +20,22 @@ use Rattle.parts.specs.declared.Seq.the-variants.{Is}
 use Rattle.parts.specs.declared.Message.{Message}
 use Rattle.node.specs.declared.Node.{Node}
 use Rattle.node.specs.Actions.{setR, setL, withStatus, created}
-use Rattle.protocol.specs.State.{isNoticeTo, dealings}
+use Rattle.protocol.specs.State.{isNoticeTo, exchanges}
 use Rattle.protocol.proofs.Nodes.{At, unchanged}
-use Rattle.protocol.proofs.Waiting.{Dealt, request-deals, no-dealing}
+use Rattle.protocol.proofs.Waiting.{Limited, request-exchange, no-exchange}
 use Rattle.protocol.proofs.Fields.{statusOf, keyOf, leftOf, rightOf, lseqOf, rseqOf}
 use Rattle.protocol.proofs.Invariant.{isMember, Member, Keeps, stored, coming, LeftLink, Invariant}
 use Rattle.protocol.proofs.Frames.{member-same, request-same, settled-in, settled-out}
 
-module _ {N N′ : ℕ → Node} {M : List Message} {told told′ joins : ℕ → Bool} (dealt : Dealt N M) (inv : Invariant N M told joins)
+module _ {N N′ : ℕ → Node} {M : List Message} {told told′ joins : ℕ → Bool} (limited : Limited N M) (inv : Invariant N M told joins)
     (i : ℕ) (others-told : (u : ℕ) → u ≢ i → told′ u ≡ told u) where
   -- "Create u: links to itself, both numbers 0, status in."
   pub creates-kept : ((u : ℕ) → N u .status ≡ Out) → any (isNoticeTo i) M ≡ false → told′ i ≡ true → At N i (created i (N i)) N′ → Invariant N′ M told′ joins
   creates-kept out quiet own-told at = record {
-    dealings = record {
+    exchanges = record {
       joiners = λ u h. absurd (none-waits u Ins (settled-in .0) (settled-out .0) h);
       leavers = λ u h. absurd (none-waits u Del (settled-in .1) (settled-out .1) h);
-      requests = λ v p new e n j. absurd (not-both (request-deals v p new e n) (no-dealing dealt v (ap dealings (out v)) j));
+      requests = λ v p new e n j. absurd (not-both (request-exchange v p new e n) (no-exchange limited v (ap exchanges (out v)) j));
       quiet = λ w u a n h. absurd (none-waits u Ins (settled-in .0) (settled-out .0) h);
     };
     order = record {
@@ -76,7 +76,7 @@ module _ {N N′ : ℕ → Node} {M : List Message} {told told′ joins : ℕ �
             reached = rw lseq (newer-irreflexive R);
             noticed = λ w a n j. absurd (none w a n j);
             named = λ w a j. absurd (none w a R j);
-            settled = λ _. ap leftOf (at .self);
+            current = λ _. ap leftOf (at .self);
             awaited = λ d. absurd (d lseq);
           }
 
@@ -92,11 +92,11 @@ module _ {N N′ : ℕ → Node} {M : List Message} {told told′ joins : ℕ �
   -- "if u's right link is u, out with no message"
   pub goes-alone-kept : {joins′ : ℕ → Bool} → ((u : ℕ) → u ≢ i → joins′ u ≡ joins u) → N i .status ≡ In → N i .right ≡ To i → told′ i ≡ false → At N i (withStatus Out (N i)) N′ → Invariant N′ M told′ joins′
   goes-alone-kept other-joins is-in alone own-told at = record {
-    dealings = record {
-      joiners = λ u h. other-joins u (not-gone u Ins (settled-out .0) h) ∙ inv .dealings .joiners u (waited u Ins (settled-out .0) h);
-      leavers = λ u h. other-joins u (not-gone u Del (settled-out .1) h) ∙ inv .dealings .leavers u (waited u Del (settled-out .1) h);
-      requests = λ v p new e n j. request-same (at .others v (not-own v p new e n j)) (keys p) (keys e) (inv .dealings .requests v p new e n j);
-      quiet = λ w u a n h f j. inv .dealings .quiet w u a n (waited u Ins (settled-out .0) h) (sym (same u (not-gone u Ins (settled-out .0) h)) ∙ f) j;
+    exchanges = record {
+      joiners = λ u h. other-joins u (not-gone u Ins (settled-out .0) h) ∙ inv .exchanges .joiners u (waited u Ins (settled-out .0) h);
+      leavers = λ u h. other-joins u (not-gone u Del (settled-out .1) h) ∙ inv .exchanges .leavers u (waited u Del (settled-out .1) h);
+      requests = λ v p new e n j. request-same (at .others v (not-own v p new e n j)) (keys p) (keys e) (inv .exchanges .requests v p new e n j);
+      quiet = λ w u a n h f j. inv .exchanges .quiet w u a n (waited u Ins (settled-out .0) h) (sym (same u (not-gone u Ins (settled-out .0) h)) ∙ f) j;
     };
     order = record {
       order = [];
@@ -111,7 +111,7 @@ module _ {N N′ : ℕ → Node} {M : List Message} {told told′ joins : ℕ �
       keys = unchanged at keyOf refl
 
       not-own : (v p new e : ℕ) (n : Number) → setR v p new e n ∈ M → v ≢ i
-      not-own v p new e n j f = not-both (request-deals v p new e n) (rw (← f) at (no-dealing dealt i (ap dealings is-in) j))
+      not-own v p new e n j f = not-both (request-exchange v p new e n) (rw (← f) at (no-exchange limited i (ap exchanges is-in) j))
 
       not-gone : (u : ℕ) (s : Status) → Out ≢ s → N′ u .status ≡ s → u ≢ i
       not-gone u s n h e = n (sym (ap statusOf (at .self)) ∙ ap (λ v. N′ v .status) (sym e) ∙ h)

@@ -10,9 +10,9 @@ use native.Mathlib.Decide.{decLt}
 use lib.ListN.{length, set}
 use lib.Dec.{ltb, eqb}
 use borrow.Author.Tests.{ltb-true, eq-eqb, ne-eqb, eqb-true, eqb-false}
-use Rattle.truth.specs.Tests.{count}
-use Rattle.truth.proofs.Laws.{both, by-test}
-use Rattle.truth.proofs.TestLaws.{_∈_, not-both}
+use Rattle.predicates.specs.Tests.{count}
+use Rattle.predicates.proofs.Laws.{both, by-test}
+use Rattle.predicates.proofs.TestLaws.{_∈_, not-both}
 use Rattle.refusal.specs.Code.{Reason}
 use Rattle.refusal.specs.Rules.{no as refusal}
 use Rattle.sequence.specs.Sequence.{Number, nextSeq, cappedNext}
@@ -25,12 +25,12 @@ use Rattle.node.proofs.FitLaws.{message-facts, number-named}
 use Rattle.protocol.specs.declared.Call.{Call}
 use Rattle.protocol.specs.declared.Order.the-variants.{Declare, Create, Join, Leave}
 use Rattle.protocol.specs.declared.Call.the-variants.{Order, Deliver}
-use Rattle.protocol.specs.State.{State, nodeAt, statusAt, isDealingOf, dealings}
+use Rattle.protocol.specs.State.{State, nodeAt, statusAt, isExchangeOf, exchanges}
 use Rattle.protocol.specs.Calls.{Result, messageAt, peerAt}
 use Rattle.protocol.specs.Events.{stays, admitted, released, grantOf, eventOf, put, toldAfter}
 use Rattle.protocol.specs.History.{History, joinsAfter}
 use Rattle.protocol.proofs.Nodes.{listed, declared-at, past, set-at}
-use Rattle.protocol.proofs.Waiting.{Taken, Dealt}
+use Rattle.protocol.proofs.Waiting.{Taken, Limited}
 use Rattle.protocol.proofs.Fields.{statusOf}
 use Rattle.protocol.proofs.Facts.{WellFormed}
 use Rattle.protocol.proofs.Changes.{Grants, Act, drops, lets-in, lets-go, denies, joins, goes, stays-out, stays-in, takes, ignores}
@@ -47,16 +47,16 @@ use Rattle.protocol.proofs.Grants.{granted, Grant, is-joiner, lets-in-k
 
 -- what is kept from call to call
 pub record Good (h : History) : Type 0 where
-  pub formed : WellFormed (h .state)
+  pub well-formed : WellFormed (h .state)
   pub numbers : NumbersFit (nodeAt (h .state)) (h .state .messages)
   pub invariant : Invariant (nodeAt (h .state)) (h .state .messages) (h .told) (h .joins)
 
 -- ---- a state as the invariant sees it
-dealt : {s : State} → WellFormed s → Dealt (nodeAt s) (s .messages)
-dealt {s} w = record { most = λ u. go u (decLt u (length (s .nodes))) }
+limited : {s : State} → WellFormed s → Limited (nodeAt s) (s .messages)
+limited {s} w = record { most = λ u. go u (decLt u (length (s .nodes))) }
   where
-    go : (u : ℕ) → Dec (u < length (s .nodes)) → count (isDealingOf u) (s .messages) ≤ dealings (statusAt s u)
-    go u (yes k) = w .dealing u k
+    go : (u : ℕ) → Dec (u < length (s .nodes)) → count (isExchangeOf u) (s .messages) ≤ exchanges (statusAt s u)
+    go u (yes k) = w .exchange u k
     go u (no k) = omega (arith, unconcerned (length (s .nodes)) u (omega arith) (s .messages) (w .message))
 
 -- ---- what is told
@@ -99,7 +99,7 @@ module _ (h : History) (g : Good h) where
   pub granting-of : {v p new e : ℕ} {n k : Number} {rest : List Message} (q a b l : ℕ) → Taken (h .state .messages) (setR v p new e n) rest → p < length (h .state .nodes) → Grants (h .state) p e k
       → Grant (nodeAt (h .state)) (listed (set (h .state .nodes) p (relinked (nodeAt (h .state) p) new n))) (h .state .messages) rest (rest ++ setL p q a b ∷ setRAck p v l ∷ []) (h .told) (h .joins) v p new e n q a b l
   granting-of {v} {p} {rest = rest} q a b l t k gr = record {
-    dealt = dealt (g .formed);
+    limited = limited (g .well-formed);
     inv = g .invariant;
     taken = t;
     queue = granted rest p v q a b l;
@@ -117,33 +117,33 @@ module _ (h : History) (g : Good h) where
   number : {p new e : ℕ} {n : Number} {rest : List Message} (v : ℕ) → Taken (h .state .messages) (setR v p new e n) rest
       → statusAt (h .state) v ≡ Del → nodeAt (h .state) v .rseq ≡ Is (seqOf (nodeAt (h .state) v .rseq))
   number v t del =
-      let fits = message-facts (length (h .state .nodes)) _ (g .formed .message _ (t .waits)) in
-      number-named (g .formed .node v (ltb-true v _ (fits .sender))) (ap isInOrDel del)
+      let fits = message-facts (length (h .state .nodes)) _ (g .well-formed .message _ (t .waits)) in
+      number-named (g .well-formed .node v (ltb-true v _ (fits .sender))) (ap isInOrDel del)
 
   act-holds : (place : ℕ) {m : Message} {rest : List Message} {r : Result} → messageAt (h .state) place ≡ m → Taken (h .state .messages) m rest
       → m .to < length (h .state .nodes) → Act (h .state) m rest r → After h (Deliver place) r
-  act-holds place at t k (drops out er) = rw er (drops-kept (g .invariant) (set-at (h .state .nodes) k) (dealt (g .formed)) refl out t)
+  act-holds place at t k (drops out er) = rw er (drops-kept (g .invariant) (set-at (h .state .nodes) k) (limited (g .well-formed)) refl out t)
   act-holds place at t k (lets-in v p e n l em gr room er) =
       let c = granting-of e v (nextSeq l) (nextSeq l) (rw em at t) (rw em at k) gr in
-      rw (er, granted-event place at em (g .invariant .dealings .joiners v (is-joiner c)))
+      rw (er, granted-event place at em (g .invariant .exchanges .joiners v (is-joiner c)))
       (lets-in-kept c (gr .number) (put-other (h .told) v true) (put-own (h .told) v true))
   act-holds place at t k (lets-go v p new e n l em d gr er) =
       let c = granting-of new p n (cappedNext l) (rw em at t) (rw em at k) gr in
-      rw (er, granted-event place at em (g .invariant .dealings .leavers v (is-leaver c d)))
+      rw (er, granted-event place at em (g .invariant .exchanges .leavers v (is-leaver c d)))
       (lets-go-kept c d (number v (rw em at t) (is-leaver c d)) (put-other (h .told) v false) (put-own (h .told) v false))
   act-holds place at t k (denies v p new e n em out er) = rw er (denies-kept (g .invariant) (set-at (h .state .nodes) (rw em at k)) v p new e n (rw em at t))
-  act-holds place at t k (joins p u n em ins er) = rw er (joins-kept (dealt (g .formed)) (g .invariant) n (rw em at t) ins (set-at (h .state .nodes) (rw em at k)))
-  act-holds place at t k (goes p u n em del er) = rw er (goes-kept (dealt (g .formed)) (g .invariant) n (rw em at t) del (set-at (h .state .nodes) (rw em at k)))
-  act-holds place at t k (stays-out p u em ins er) = rw er (stays-out-kept (dealt (g .formed)) (g .invariant) (rw em at t) ins (set-at (h .state .nodes) (rw em at k)))
-  act-holds place at t k (stays-in p u em del er) = rw er (stays-in-kept (dealt (g .formed)) (g .invariant) (rw em at t) del (set-at (h .state .nodes) (rw em at k)))
-  act-holds place at t k (takes p u a n em out new er) = rw er (takes-kept (dealt (g .formed)) (g .invariant) (rw em at t) new (set-at (h .state .nodes) (rw em at k)))
-  act-holds place at t k (ignores p u a n em out old er) = rw er (ignores-kept (dealt (g .formed)) (g .invariant) (rw em at t) old (set-at (h .state .nodes) (rw em at k)))
+  act-holds place at t k (joins p u n em ins er) = rw er (joins-kept (limited (g .well-formed)) (g .invariant) n (rw em at t) ins (set-at (h .state .nodes) (rw em at k)))
+  act-holds place at t k (goes p u n em del er) = rw er (goes-kept (limited (g .well-formed)) (g .invariant) n (rw em at t) del (set-at (h .state .nodes) (rw em at k)))
+  act-holds place at t k (stays-out p u em ins er) = rw er (stays-out-kept (limited (g .well-formed)) (g .invariant) (rw em at t) ins (set-at (h .state .nodes) (rw em at k)))
+  act-holds place at t k (stays-in p u em del er) = rw er (stays-in-kept (limited (g .well-formed)) (g .invariant) (rw em at t) del (set-at (h .state .nodes) (rw em at k)))
+  act-holds place at t k (takes p u a n em out new er) = rw er (takes-kept (limited (g .well-formed)) (g .invariant) (rw em at t) new (set-at (h .state .nodes) (rw em at k)))
+  act-holds place at t k (ignores p u a n em out old er) = rw er (ignores-kept (limited (g .well-formed)) (g .invariant) (rw em at t) old (set-at (h .state .nodes) (rw em at k)))
 
   -- what a waiting request names is declared
   known : (v p new e : ℕ) (n : Number) → setR v p new e n ∈ h .state .messages → (v ≢ length (h .state .nodes)) × (p ≢ length (h .state .nodes)) × (e ≢ length (h .state .nodes))
   known v p new e n i =
       let size = length (h .state .nodes) in
-      let fits = message-facts size _ (g .formed .message _ i) in
+      let fits = message-facts size _ (g .well-formed .message _ i) in
       let below : (u : ℕ) → ltb u size ≡ true → u ≢ size = λ u k d. omega (arith, ltb-true u size k) in
       (below v (fits .sender), below p (fits .to), below e (both (ltb new size) (ltb e size) (fits .kind) .1))
 
@@ -158,13 +158,13 @@ module _ (h : History) (g : Good h) where
   accepted-holds (declares key ec d er) = rw (ec, er)
       (declares-kept (g .invariant) (ap statusOf (past (h .state) (length (h .state .nodes)) (omega arith))) known (declared-at (h .state) key))
   accepted-holds (creates u ec c er) = rw (ec, er)
-      (creates-kept (dealt (g .formed)) (g .invariant) u (put-other (h .told) u true) (all-out (c .all-out)) (c .no-notice) (put-own (h .told) u true) (set-at (h .state .nodes) (c .declared)))
+      (creates-kept (limited (g .well-formed)) (g .invariant) u (put-other (h .told) u true) (all-out (c .all-out)) (c .no-notice) (put-own (h .told) u true) (set-at (h .state .nodes) (c .declared)))
   accepted-holds (asks u p q ec j er) = rw (ec, er)
-      (asks-kept (dealt (g .formed)) (g .invariant) u (put-other (h .joins) u true) (peerAt (h .state) p) (peerAt (h .state) q) (j .is-out) (put-own (h .joins) u true) (j .no-notice) (j .between) (set-at (h .state .nodes) (j .declared)))
+      (asks-kept (limited (g .well-formed)) (g .invariant) u (put-other (h .joins) u true) (peerAt (h .state) p) (peerAt (h .state) q) (j .is-out) (put-own (h .joins) u true) (j .no-notice) (j .between) (set-at (h .state .nodes) (j .declared)))
   accepted-holds (goes-alone u ec l er) = rw (ec, er)
-      (goes-alone-kept (dealt (g .formed)) (g .invariant) u (put-other (h .told) u false) (put-other (h .joins) u false) (l .is-in) (l .alone) (put-own (h .told) u false) (set-at (h .state .nodes) (l .declared)))
+      (goes-alone-kept (limited (g .well-formed)) (g .invariant) u (put-other (h .told) u false) (put-other (h .joins) u false) (l .is-in) (l .alone) (put-own (h .told) u false) (set-at (h .state .nodes) (l .declared)))
   accepted-holds (leaves u p q n ec l er) = rw (ec, er)
-      (leaves-kept (dealt (g .formed)) (g .invariant) u (put-other (h .joins) u false) p q n (l .is-in) (put-own (h .joins) u false) (l .right) (l .not-alone) (l .number) (set-at (h .state .nodes) (l .declared)))
+      (leaves-kept (limited (g .well-formed)) (g .invariant) u (put-other (h .joins) u false) p q n (l .is-in) (put-own (h .joins) u false) (l .right) (l .not-alone) (l .number) (set-at (h .state .nodes) (l .declared)))
   accepted-holds (delivers place m rest ec d act) = rw ec (act-holds place (d .at) (d .taken) (d .declared) act)
 
   pub call-holds : {call : Call} {r : Result} → Change (h .state) call r → After h call r

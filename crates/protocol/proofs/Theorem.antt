@@ -9,9 +9,9 @@ use native.Mathlib.Omega.{arith}
 use native.Mathlib.Decide.{ℕ-discrete}
 use lib.ListN.{length}
 use borrow.Author.Tests.{eq-eqb, eqb-true}
-use Rattle.truth.specs.Tests.{any}
-use Rattle.truth.proofs.Laws.{true-is-not-false}
-use Rattle.truth.proofs.TestLaws.{_∈_, holds, is-true, not-both, none-in, some-in}
+use Rattle.predicates.specs.Tests.{any}
+use Rattle.predicates.proofs.Laws.{true-is-not-false}
+use Rattle.predicates.proofs.TestLaws.{_∈_, holds, is-true, not-both, none-in, some-in}
 use mathlib.Core.List.{List·Memᴰ·not-nil as in-none}
 use Rattle.sequence.proofs.Laws.{first-fits}
 use Rattle.links.proofs.Circuit.{no-ring, predecessor, circuit}
@@ -25,7 +25,7 @@ use Rattle.parts.specs.Tests.{isInOrDel, seqOf}
 use Rattle.node.specs.Actions.{setRAck}
 use Rattle.node.proofs.FitLaws.{number-named}
 use Rattle.protocol.specs.declared.Call.{Call}
-use Rattle.protocol.specs.State.{State, nodeAt, statusAt, leftAt, rightAt, isAckTo, isNoticeTo, dealings, noticeWaits, isInserted, inserted}
+use Rattle.protocol.specs.State.{State, nodeAt, statusAt, leftAt, rightAt, isAckTo, isNoticeTo, exchanges, noticeWaits, isInserted, inserted}
 use Rattle.protocol.specs.History.{History, start, advanced, run, history}
 use Rattle.protocol.specs.Claim.{Inserted, Sound, RingClaim}
 use Rattle.protocol.proofs.Nodes.{declared-unless-out}
@@ -42,17 +42,17 @@ use Rattle.protocol.proofs.Steps.{Good, call-holds}
 -- ---- from the empty network, over any list
 good-start : Good start
 good-start = record {
-  formed = record {
+  well-formed = record {
     few-nodes = omega arith;
     few-messages = omega arith;
     node = λ u k. absurd (omega arith);
     keys = λ u v k. absurd (omega arith);
-    dealing = λ u k. absurd (omega arith);
+    exchange = λ u k. absurd (omega arith);
     message = λ m i. absurd (in-none i);
   };
   numbers = record { left = λ u. first-fits; right = λ u. refl; waiting = λ m i. absurd (in-none i) };
   invariant = record {
-    dealings = record {
+    exchanges = record {
       joiners = λ u e. absurd (settled-out .0 e);
       leavers = λ u e. absurd (settled-out .1 e);
       requests = λ v p new e n i. absurd (in-none i);
@@ -71,7 +71,7 @@ good-start = record {
 pub good-next : (h : History) → Good h → (call : Call) → Good (advanced h call)
 good-next h g call =
     let c = change (h .state) call in
-    record { formed = kept (g .formed) c; numbers = numbers-kept (h .state) (g .numbers) c; invariant = call-holds h g c }
+    record { well-formed = kept (g .well-formed) c; numbers = numbers-kept (h .state) (g .numbers) c; invariant = call-holds h g c }
 
 good-run : (calls : List Call) (h : History) → Good h → Good (run h calls)
 good-run [] h g = g
@@ -119,7 +119,7 @@ module _ {s : State} {told joins : ℕ → Bool} (w : WellFormed s) (inv : Invar
       go R link (ℕ-discrete (nodeAt s u .lseq) R)
     where
       go : (R : ℕ) → LeftLink (nodeAt s) (s .messages) p u R → Dec (nodeAt s u .lseq ≡ R) → leftAt s u ≡ To p
-      go R link (yes e) = link .settled e
+      go R link (yes e) = link .current e
       go R link (no d) = let (x, a, i) = link .awaited d in absurd (not-both (eq-eqb u u refl) (none-in (isNoticeTo u) quiet i))
 
 -- the list that is the ring is that of the inserted nodes
@@ -134,16 +134,16 @@ sound h g =
     let o = g .invariant .order in
     let member : (u : ℕ) → (u ∈ o .order) ↔ Inserted s u = listed-inserted s o in
     record {
-      well-formed = holds (tested s (g .formed));
+      well-formed = holds (tested s (g .well-formed));
       numbers-fit = holds (numbers-tested s (g .numbers));
       told = o .as-told;
       ring = record {
         circuit = circuit (o .ring) (Inserted s) member;
         predecessor = λ u t. let p = predecessor (o .ring) (member u .1 t) in
             record { node = p .node; member = member (p .node) .0 (p .member); links = p .links; only = λ m i e. p .only m (member m .1 i) e };
-        left = λ u p _ quiet t right. left-holds (g .formed) (g .invariant) u p quiet (is-true _ t) right;
+        left = λ u p _ quiet t right. left-holds (g .well-formed) (g .invariant) u p quiet (is-true _ t) right;
       };
-      lively = lively s (g .formed);
+      lively = lively s (g .well-formed);
     }
 
 -- Demand 3: for every list of calls, of any arguments, refused ones included

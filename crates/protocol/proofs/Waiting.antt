@@ -1,4 +1,4 @@
--- What waits: a message taken from the others, the members of a queue with posts, and a node's dealings. A node has at most one dealing,
+-- What waits: a message taken from the others, the members of a queue with posts, and a node's exchanges. A node has at most one exchange,
 -- so whoever sees one knows that there is no other. Assumes nothing.
 use mathlib.Core.Path.{_≡_, refl, sym, ap, subst, _∙_}
 use mathlib.Core.Logic.{_⊎_, inl, inr, ⊎-elim, _≢_}
@@ -11,8 +11,8 @@ use lib.ListN.{length, take, drop, length-append}
 use lib.Seq.{split-at}
 use borrow.Author.Tests.{eq-eqb}
 use Rattle.sequence.specs.Sequence.{Number}
-use Rattle.truth.specs.Tests.{bit, count, any}
-use Rattle.truth.proofs.TestLaws.{_∈_, decided, not-both, any-in, some-in, not-any, count-append, none-counted, bit-true}
+use Rattle.predicates.specs.Tests.{bit, count, any}
+use Rattle.predicates.proofs.TestLaws.{_∈_, decided, not-both, any-in, some-in, not-any, count-append, none-counted, bit-true}
 use Rattle.parts.specs.declared.Status.{Status}
 use Rattle.parts.specs.declared.Status.the-variants.{Out, Ins, In, Del}
 use Rattle.parts.specs.declared.Kind.{Kind}
@@ -20,7 +20,7 @@ use Rattle.parts.specs.declared.Kind.the-variants.{SetR, SetRAck, SetRNak, SetL
 use Rattle.parts.specs.declared.Message.{Message}
 use Rattle.node.specs.declared.Node.{Node}
 use Rattle.node.specs.Actions.{setR, setRAck, setRNak}
-use Rattle.protocol.specs.State.{State, isAckTo, isDealingOf, dealings}
+use Rattle.protocol.specs.State.{State, isAckTo, isExchangeOf, exchanges}
 use Rattle.protocol.specs.Calls.{messageAt, without}
 
 -- ---- a message taken out, and the rest
@@ -77,60 +77,60 @@ same-any test l m to from = ⊎-elim (λ t. t ∙ sym (over t)) (λ f. f ∙ sym
     over : any test l ≡ true → any test m ≡ true
     over t = let (x, i, e) = some-in test l t in any-in test (to x e i) e
 
--- ---- dealings
--- no node has more dealings than its status allows
-pub record Dealt (N : ℕ → Node) (M : List Message) : Type 0 where
-  pub most : (u : ℕ) → count (isDealingOf u) M ≤ dealings (N u .status)
+-- ---- exchanges
+-- no node has more exchanges than its status allows
+pub record Limited (N : ℕ → Node) (M : List Message) : Type 0 where
+  pub most : (u : ℕ) → count (isExchangeOf u) M ≤ exchanges (N u .status)
 
-pub dealings-most : (s : Status) → dealings s ≤ 1
-dealings-most Out = omega arith
-dealings-most Ins = omega arith
-dealings-most In = omega arith
-dealings-most Del = omega arith
+pub exchanges-most : (s : Status) → exchanges s ≤ 1
+exchanges-most Out = omega arith
+exchanges-most Ins = omega arith
+exchanges-most In = omega arith
+exchanges-most Del = omega arith
 
-pub request-deals : (u p new e n : ℕ) → isDealingOf u (setR u p new e n) ≡ true
-request-deals u p new e n = rw (eq-eqb u u refl)
+pub request-exchange : (u p new e n : ℕ) → isExchangeOf u (setR u p new e n) ≡ true
+request-exchange u p new e n = rw (eq-eqb u u refl)
 
-pub ack-deals : (w u : ℕ) (n : Number) → isDealingOf u (setRAck w u n) ≡ true
-ack-deals w u n = eq-eqb u u refl
+pub ack-exchange : (w u : ℕ) (n : Number) → isExchangeOf u (setRAck w u n) ≡ true
+ack-exchange w u n = eq-eqb u u refl
 
-pub nak-deals : (w u : ℕ) → isDealingOf u (setRNak w u) ≡ true
-nak-deals w u = eq-eqb u u refl
+pub nak-exchange : (w u : ℕ) → isExchangeOf u (setRNak w u) ≡ true
+nak-exchange w u = eq-eqb u u refl
 
-pub not-ack : (u : ℕ) (m : Message) → isDealingOf u m ≡ false → isAckTo u m ≡ false
+pub not-ack : (u : ℕ) (m : Message) → isExchangeOf u m ≡ false → isAckTo u m ≡ false
 not-ack u m = go (m .kind) (m .sender) (m .to)
   where
-    go : (k : Kind) (v w : ℕ) → isDealingOf u (record { sender = v; to = w; kind = k }) ≡ false → isAckTo u (record { sender = v; to = w; kind = k }) ≡ false
+    go : (k : Kind) (v w : ℕ) → isExchangeOf u (record { sender = v; to = w; kind = k }) ≡ false → isAckTo u (record { sender = v; to = w; kind = k }) ≡ false
     go (SetR new expected number) v w h = refl
     go (SetRAck number) v w h = h
     go SetRNak v w h = refl
     go (SetL left number) v w h = refl
 
-pub ack-dealing : (u : ℕ) (m : Message) → isAckTo u m ≡ true → isDealingOf u m ≡ true
-ack-dealing u m a = ⊎-elim (λ t. t) (λ f. absurd (not-both a (not-ack u m f))) (decided (isDealingOf u m))
+pub ack-is-exchange : (u : ℕ) (m : Message) → isAckTo u m ≡ true → isExchangeOf u m ≡ true
+ack-is-exchange u m a = ⊎-elim (λ t. t) (λ f. absurd (not-both a (not-ack u m f))) (decided (isExchangeOf u m))
 
-module _ {N : ℕ → Node} {M : List Message} (dealt : Dealt N M) where
+module _ {N : ℕ → Node} {M : List Message} (limited : Limited N M) where
   -- a node that is out or in has none
-  pub no-dealing : (u : ℕ) {x : Message} → dealings (N u .status) ≡ 0 → x ∈ M → isDealingOf u x ≡ false
-  no-dealing u e i = none-counted (isDealingOf u) (omega (arith, dealt .most u)) i
+  pub no-exchange : (u : ℕ) {x : Message} → exchanges (N u .status) ≡ 0 → x ∈ M → isExchangeOf u x ≡ false
+  no-exchange u e i = none-counted (isExchangeOf u) (omega (arith, limited .most u)) i
 
   -- one that has one has no other
-  pub only-dealing : (u : ℕ) {m x : Message} {rest : List Message} → Taken M m rest → isDealingOf u m ≡ true → x ∈ rest → isDealingOf u x ≡ false
-  only-dealing u t d i = none-counted (isDealingOf u) (omega (arith, dealt .most u, dealings-most (N u .status), t .counted (isDealingOf u), bit-true d)) i
+  pub only-exchange : (u : ℕ) {m x : Message} {rest : List Message} → Taken M m rest → isExchangeOf u m ≡ true → x ∈ rest → isExchangeOf u x ≡ false
+  only-exchange u t d i = none-counted (isExchangeOf u) (omega (arith, limited .most u, exchanges-most (N u .status), t .counted (isExchangeOf u), bit-true d)) i
 
   -- one that has one is ins or del
-  pub waits-for : (u : ℕ) {m : Message} → m ∈ M → isDealingOf u m ≡ true → (N u .status ≡ Ins) ⊎ (N u .status ≡ Del)
+  pub waits-for : (u : ℕ) {m : Message} → m ∈ M → isExchangeOf u m ≡ true → (N u .status ≡ Ins) ⊎ (N u .status ≡ Del)
   waits-for u {m} i d = go (N u .status) refl
     where
       go : (s : Status) → N u .status ≡ s → (N u .status ≡ Ins) ⊎ (N u .status ≡ Del)
-      go Out e = absurd (not-both d (no-dealing u (ap dealings e) i))
+      go Out e = absurd (not-both d (no-exchange u (ap exchanges e) i))
       go Ins e = inl e
-      go In e = absurd (not-both d (no-dealing u (ap dealings e) i))
+      go In e = absurd (not-both d (no-exchange u (ap exchanges e) i))
       go Del e = inr e
 
-  -- a node whose one dealing is no SetRAck has no SetRAck waiting
-  pub no-ack : (u : ℕ) {m : Message} {rest : List Message} → Taken M m rest → isDealingOf u m ≡ true → isAckTo u m ≡ false → any (isAckTo u) M ≡ false
-  no-ack u {m} t d f = not-any (isAckTo u) M (λ x i. ⊎-elim (λ (e : x ≡ m). rw e f) (λ j. not-ack u x (only-dealing u t d j)) (t .either x i))
+  -- a node whose one exchange is no SetRAck has no SetRAck waiting
+  pub no-ack : (u : ℕ) {m : Message} {rest : List Message} → Taken M m rest → isExchangeOf u m ≡ true → isAckTo u m ≡ false → any (isAckTo u) M ≡ false
+  no-ack u {m} t d f = not-any (isAckTo u) M (λ x i. ⊎-elim (λ (e : x ≡ m). rw e f) (λ j. not-ack u x (only-exchange u t d j)) (t .either x i))
 
 -- ---- acknowledgements that wait, where a message is taken that is none of u's
 pub acks-left : (u : ℕ) {M rest : List Message} {m : Message} → Taken M m rest → isAckTo u m ≡ false → any (isAckTo u) rest ≡ any (isAckTo u) M

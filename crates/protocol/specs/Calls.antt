@@ -6,7 +6,7 @@ use mathlib.Core.Bool.{Bool, not, _&&_}
 use mathlib.Core.List.{List, [], _∷_, _++_}
 use lib.ListN.{length, getD, set, take, drop}
 use lib.Dec.{ltb, eqb}
-use Rattle.truth.specs.Tests.{everyBelow}
+use Rattle.predicates.specs.Tests.{everyBelow}
 use Rattle.refusal.specs.Code.{Reason}
 use Rattle.refusal.specs.Rules.{Coded, done, no, Rule, _when_, ruled}
 use Rattle.serial.specs.Serial.{inRange}

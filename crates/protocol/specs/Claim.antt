@@ -6,7 +6,7 @@ use mathlib.Core.Bool.{false, not}
 use mathlib.Core.List.{List, [], _∷_}
 use lib.ListN.{length}
 use lib.Dec.{T}
-use Rattle.truth.specs.Tests.{bit, count}
+use Rattle.predicates.specs.Tests.{bit, count}
 use Rattle.links.specs.Walk.{Circuit, Predecessor}
 use Rattle.parts.specs.declared.Link.the-variants.{To}
 use Rattle.parts.specs.declared.Message.{Message}

@@ -5,7 +5,7 @@ use mathlib.Core.Bool.{Bool, true, false, not, _&&_, _||_}
 use mathlib.Core.List.{List, []}
 use lib.ListN.{length, getD}
 use lib.Dec.{ltb, leb, eqb}
-use Rattle.truth.specs.Tests.{count, any, every, everyBelow}
+use Rattle.predicates.specs.Tests.{count, any, every, everyBelow}
 use Rattle.sequence.specs.Sequence.{isSeq}
 use Rattle.parts.specs.declared.Status.{Status}
 use Rattle.parts.specs.declared.Status.the-variants.{Out, Ins, In, Del}
@@ -57,8 +57,8 @@ abbrev pub isNoticeTo : ℕ → Message → Bool
 isNoticeTo u m = isNotice (m .kind) && eqb (m .to) u
 
 -- "SetR from it or answer to it"
-abbrev pub isDealingOf : ℕ → Message → Bool
-isDealingOf u m = (isRequest (m .kind) && eqb (m .sender) u) || (isAnswer (m .kind) && eqb (m .to) u)
+abbrev pub isExchangeOf : ℕ → Message → Bool
+isExchangeOf u m = (isRequest (m .kind) && eqb (m .sender) u) || (isAnswer (m .kind) && eqb (m .to) u)
 
 abbrev pub ackWaits : State → ℕ → Bool
 ackWaits s u = any (isAckTo u) (s .messages)
@@ -72,19 +72,19 @@ abbrev pub keyIsNew : State → ℕ → Bool
 keyIsNew s u = everyBelow u (λ v. not (eqb (keyAt s v) (keyAt s u)))
 
 -- "at most one .. and one only while it is ins or del"
-abbrev pub dealings : Status → ℕ
-dealings Out = 0
-dealings Ins = 1
-dealings In = 0
-dealings Del = 1
+abbrev pub exchanges : Status → ℕ
+exchanges Out = 0
+exchanges Ins = 1
+exchanges In = 0
+exchanges Del = 1
 
 -- what is asked of one node: that it fits among the nodes declared (its key in range, its links declared, both there unless it is
--- out, a right number while it is in or del), that its key is its own, and that it has no more dealings than its status allows
+-- out, a right number while it is in or del), that its key is its own, and that it has no more exchanges than its status allows
 abbrev pub nodeIsWellFormed : State → ℕ → Bool
 nodeIsWellFormed s u =
     nodeFits (length (s .nodes)) (nodeAt s u)
     && (keyIsNew s u
-    && leb (count (isDealingOf u) (s .messages)) (dealings (statusAt s u)))
+    && leb (count (isExchangeOf u) (s .messages)) (exchanges (statusAt s u)))
 
 -- "counts are within limits; .. keys differ and are in range; bench numbers in links and messages are declared; .. a bench not out has
 -- both links; a bench in or del has a right number; each bench has at most one SetR from it or answer to it waiting, and one only

@@ -12,7 +12,7 @@ use borrow.Author.Tests.{eqb-false}
 use Rattle.refusal.specs.declared.Refusal.{Refusal}
 use Rattle.refusal.specs.declared.Refusal.the-variants.{UnknownMark, CutShort, BadDigit, SerialTooLarge, Undeclared, Malformed, ScriptTooLong, NetworkFull, KeyTaken, NotAllOut, NotOut, NotBetween, NoticeWaiting, NotIn, SequenceSpent, QueueFull, NoMessage, StartNotInserted, OwnerNotFound}
 use Rattle.refusal.specs.Code.{code, plain, reason}
-use Rattle.refusal.specs.Rules.{Rule, rule, first, settled}
+use Rattle.refusal.specs.Rules.{Rule, rule, first, unlessRefused}
 
 -- the numbers from 1, and those from 20
 fromInput : List Refusal
@@ -53,7 +53,7 @@ pub reason-injective : (r s : Refusal) → reason r ≡ reason s → r ≡ s
 reason-injective r s e = code-injective r s cc
 
 -- ---- rules after other rules
-pub first-append : (rules rest : List Rule) → first (rules ++ rest) ≡ settled (first rules) some (first rest)
+pub first-append : (rules rest : List Rule) → first (rules ++ rest) ≡ unlessRefused (first rules) some (first rest)
 first-append [] rest = refl
 first-append (rule r true ∷ rules) rest = refl
 first-append (rule r false ∷ rules) rest = first-append rules rest

@@ -33,9 +33,9 @@ checked Clear = none
 checked (Refuse r) = some (reason r)
 
 -- what comes of a call: `refused` of the reason, or else what is accepted
-abbrev pub settled : {B : Type 0} → Option Reason → (Reason → B) → B → B
-settled none refused accepted = accepted
-settled (some r) refused accepted = refused r
+abbrev pub unlessRefused : {B : Type 0} → Option Reason → (Reason → B) → B → B
+unlessRefused none refused accepted = accepted
+unlessRefused (some r) refused accepted = refused r
 
 abbrev pub ruled : {B : Type 0} → List Rule → (Reason → B) → B → B
-ruled rules refused accepted = settled (first rules) refused accepted
+ruled rules refused accepted = unlessRefused (first rules) refused accepted

@@ -12,8 +12,8 @@ use Rattle.access.specs.declared.Arrival.{Arrival}
 use Rattle.access.specs.Sights.{sightOf, arrivalOf}
 use Rattle.searches.specs.declared.Found.{Found}
 use Rattle.searches.specs.Searches.{foundOf}
-use Rattle.settling.specs.Settling.{Decided, spotsOf}
-use Rattle.decision.specs.Decisions.{orderDecision, deliveryDecision}
+use Rattle.decision.specs.Decided.{Decided, spotsOf}
+use Rattle.rules.specs.Decisions.{orderDecision, deliveryDecision}
 use Rattle.ruling.specs.Rulings.{decisionOn}
 
 pub order-decided : (n : Network) (call : Call) (order : AnOrder) (spots : Spots) (sight : Sight) (found : Found) (d : Decided) → call ≡ Order order

@@ -37,11 +37,11 @@ use Rattle.searches.proofs.Found.Laws as found-laws
 use Rattle.stores.proofs.Data.{Data, word, of-struct, of-enum}
 use Rattle.stores.proofs.Reading.{some-spots, a-sight, an-arrival, a-find, an-order}
 use Rattle.report.specs.declared.Report.{Report}
-use Rattle.settling.specs.declared.Decision.{Decision}
+use Rattle.decision.specs.declared.Decision.{Decision}
 use Rattle.report.proofs.Report as report
 use Rattle.report.proofs.Report.Laws as report-laws
-use Rattle.settling.proofs.Decision as decision
-use Rattle.settling.proofs.Decision.Laws as decision-laws
+use Rattle.decision.proofs.Decision as decision
+use Rattle.decision.proofs.Decision.Laws as decision-laws
 
 abbrev pub a-call : Data
 a-call = of-enum call.the-type call-laws.the-laws call-laws.the-plain (λ x. tt) (λ x f. refl)

@@ -4,8 +4,8 @@ use Rattle.protocol.specs.declared.Call.the-variants.{Order, Deliver}
 use Rattle.network.specs.declared.Network.{Network}
 use Rattle.access.specs.Sights.{sightOf, arrivalOf}
 use Rattle.searches.specs.Searches.{foundOf}
-use Rattle.settling.specs.Settling.{Decided, spotsOf}
-use Rattle.decision.specs.Decisions.{orderDecision, deliveryDecision}
+use Rattle.decision.specs.Decided.{Decided, spotsOf}
+use Rattle.rules.specs.Decisions.{orderDecision, deliveryDecision}
 
 unfoldable pub decisionOn : Network → Call → Decided
 decisionOn n (Order order) = orderDecision order (sightOf n (spotsOf order)) (foundOf n order)

@@ -2,11 +2,11 @@
 // decision is made from that (`decision`). By value and in place it is the same decision, and nothing is changed. That it is what paper 01's rules say of a well-formed
 // network is proved in the crate `engine`.
 ghost use mathlib.Core.Path.{_≡_};
-ghost use Rattle.settling.specs.Settling.{decided};
+ghost use Rattle.decision.specs.Decided.{decided};
 ghost use Rattle.ruling.specs.Rulings.{decisionOn};
+use decision::Decision;
 use network::Network;
 use protocol::Call;
-use settling::Decision;
 
 mod in_place;
 mod places;
@@ -20,9 +20,9 @@ pub fn decide(network: Network, call: Call) -> Decision
 {
     match call {
         Call::Order(order) => {
-            let sight = access::seen(network, settling::spots(order));
-            decision::decide_order(order, sight, searches::searched(network, order))
+            let sight = access::seen(network, decision::spots(order));
+            rules::decide_order(order, sight, searches::searched(network, order))
         }
-        Call::Deliver(place) => decision::decide_delivery(place, access::met(network, place)),
+        Call::Deliver(place) => rules::decide_delivery(place, access::met(network, place)),
     }
 }

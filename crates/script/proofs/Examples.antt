@@ -1,4 +1,4 @@
--- What is read of paper 01's example script, and of single records that the paper gives or that its table settles. Each computes.
+-- What is read of paper 01's example script, and of single records that the paper gives or that its table comes-to. Each computes.
 -- Assumes nothing.
 use Prim.Native.Nat.{ℕ, zero, suc}
 use mathlib.Core.Path.{_≡_, refl}

@@ -9,7 +9,7 @@ use native.Mathlib.Nat.{not-le-of-lt}
 use lib.ListN.{length, getD, drop, length-drop}
 use lib.Dec.{ltb, leb}
 use borrow.Author.Tests.{ltb-false, leb-true, lt-ltb, le-ltb, lt-leb, le-leb}
-use Rattle.truth.proofs.Laws.{by-test}
+use Rattle.predicates.proofs.Laws.{by-test}
 use Rattle.refusal.specs.Code.{Reason, plain}
 use Rattle.script.specs.declared.Record.{Record}
 use Rattle.script.specs.declared.Mark.{Mark}

@@ -6,7 +6,7 @@ use mathlib.Core.Bool.{Bool, true, false, _&&_}
 use native.Mathlib.Omega.{arith}
 use lib.Dec.{eqb}
 use borrow.Author.Tests.{eqb-true}
-use Rattle.truth.proofs.Laws.{both}
+use Rattle.predicates.proofs.Laws.{both}
 use Rattle.script.specs.Script.{markOf}
 
 unless : (t : Bool) → (t ≡ true → ⊥) → t ≡ false

@@ -10,9 +10,9 @@ use native.Mathlib.Numerals.{add-one}
 use borrow.Author.Tests.{leb-true}
 use lib.Dec.{leb, eqb}
 use lib.ListN.{length, getD, take}
-use Rattle.truth.specs.Tests.{everyBelow, any}
-use Rattle.truth.proofs.Laws.{by-test}
-use Rattle.truth.proofs.TestLaws.{any-take}
+use Rattle.predicates.specs.Tests.{everyBelow, any}
+use Rattle.predicates.proofs.Laws.{by-test}
+use Rattle.predicates.proofs.TestLaws.{any-take}
 use Rattle.node.specs.declared.Node.{Node}
 use Rattle.parts.specs.declared.Message.{Message}
 use Rattle.node.specs.Shape.{capacity}

@@ -4,7 +4,7 @@ use Prim.Native.Nat.{ℕ}
 use mathlib.Core.Bool.{Bool, false, not, cond}
 use lib.ListN.{getD, take}
 use lib.Dec.{leb, eqb}
-use Rattle.truth.specs.Tests.{everyBelow, any}
+use Rattle.predicates.specs.Tests.{everyBelow, any}
 use Rattle.node.specs.Shape.{capacity}
 use Rattle.parts.specs.Tests.{isOut}
 use Rattle.protocol.specs.declared.Order.{Order}

@@ -5,7 +5,7 @@ ghost use mathlib.Core.Bool.{not};
 ghost use Prim.Native.Nat.{_≤_};
 ghost use lib.ListN.{getD, take};
 ghost use lib.Dec.{eqb};
-ghost use Rattle.truth.specs.Tests.{everyBelow, any};
+ghost use Rattle.predicates.specs.Tests.{everyBelow, any};
 ghost use Rattle.parts.specs.Tests.{isOut};
 ghost use Rattle.protocol.specs.State.{isNoticeTo};
 ghost use Rattle.network.specs.Arrays.{vacantNode};

@@ -8,7 +8,7 @@ use native.Mathlib.Nat.{mul-le-mul-right, pow-suc}
 use lib.ListN.{length}
 use lib.Dec.{leb, eqb}
 use borrow.Author.Tests.{leb-true, le-leb}
-use Rattle.truth.proofs.Laws.{both}
+use Rattle.predicates.proofs.Laws.{both}
 use Rattle.refusal.specs.Code.{plain}
 use Rattle.refusal.specs.Rules.{Coded, done, no, _when_, ruled}
 use Rattle.serial.specs.declared.Serial.{Serial}

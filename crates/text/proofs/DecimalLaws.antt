@@ -9,7 +9,7 @@ use lib.ListN.{length, length-append}
 use lib.Dec.{ltb}
 use borrow.Author.Tests.{lt-ltb, le-ltb}
 use Rattle.io.specs.Digits.{glyph, digits, Fewest}
-use Rattle.truth.proofs.Laws.{by-test}
+use Rattle.predicates.proofs.Laws.{by-test}
 use Rattle.text.specs.Text.{digit, decimalBelow, decimal}
 
 -- ---- a number below ten is one digit, and any other is the digits of its tenth and one more

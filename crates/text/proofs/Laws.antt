@@ -8,7 +8,7 @@ use native.Mathlib.Nat.{le-refl, add-assoc}
 use lib.ListN.{length, take, drop, length-append}
 use lib.Seq.{paste, length-paste, take-paste, drop-paste, take-length, drop-drop}
 use borrow.Author.Tests.{le-leb, lt-leb, leb-true}
-use Rattle.truth.proofs.Laws.{by-test}
+use Rattle.predicates.proofs.Laws.{by-test}
 use Rattle.text.specs.Text.{fits, pasted, placeAfter, Put}
 
 -- ---- where a piece does not fit

@@ -5,10 +5,10 @@ use Rattle.doors.proofs.by_chance.Statement.{statement}
 use Rattle.doors.proofs.by_chance.Tie as tie
 
 abbrev Inv-loop : tie.InvT-loop
-Inv-loop seed₀ formed₀ right₀ i₀ seed formed right i = (i ≤ 500) × (formed ≤ i) × (right ≤ i)
+Inv-loop seed₀ well-formed₀ right₀ i₀ seed well-formed right i = (i ≤ 500) × (well-formed ≤ i) × (right ≤ i)
 
 abbrev μ-loop : tie.MeasureT-loop
-μ-loop seed₀ formed₀ right₀ i₀ seed formed right i = 500 - i
+μ-loop seed₀ well-formed₀ right₀ i₀ seed well-formed right i = 500 - i
 
 pub by-chance-spec : {M : Type 1} → statement M
 by-chance-spec =

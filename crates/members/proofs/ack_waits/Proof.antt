@@ -8,8 +8,8 @@ use native.Mathlib.Numerals.{add-one}
 use borrow.Author.Needs.{needs}
 use lib.ListN.{length, take, getD}
 use lib.Dec.{eqb}
-use Rattle.truth.specs.Tests.{any}
-use Rattle.truth.proofs.TestLaws.{any-take}
+use Rattle.predicates.specs.Tests.{any}
+use Rattle.predicates.proofs.TestLaws.{any-take}
 use Rattle.protocol.specs.State.{isAckTo}
 use Rattle.network.proofs.Places.{zeroMessage}
 use Rattle.members.proofs.ack_waits.Statement.{statement}

@@ -4,7 +4,7 @@ use Prim.Native.Nat.{ℕ}
 use mathlib.Core.Path.{ap, _∙_}
 use borrow.Author.Needs.{needs}
 use lib.ListN.{take}
-use Rattle.truth.specs.Tests.{any}
+use Rattle.predicates.specs.Tests.{any}
 use Rattle.sequence.specs.Sequence.{firstSeq}
 use Rattle.protocol.specs.State.{queueLimit, isAckTo, isInserted}
 use Rattle.access.specs.Sights.{nodeIn}

@@ -7,7 +7,7 @@ use native.Mathlib.Omega.{arith}
 use native.Mathlib.Numerals.{add-one}
 use borrow.Author.Needs.{needs}
 use lib.ListN.{take}
-use Rattle.truth.specs.Tests.{wordBelow}
+use Rattle.predicates.specs.Tests.{wordBelow}
 use Rattle.sequence.specs.Sequence.{firstSeq}
 use Rattle.node.specs.Shape.{capacity}
 use Rattle.protocol.specs.State.{queueLimit}

@@ -7,7 +7,7 @@ use native.Mathlib.Omega.{arith}
 use native.Mathlib.Numerals.{add-one}
 use borrow.Author.Needs.{needs}
 use lib.ListN.{getD}
-use Rattle.truth.specs.Tests.{everyBelow}
+use Rattle.predicates.specs.Tests.{everyBelow}
 use Rattle.sequence.specs.Sequence.{firstSeq}
 use Rattle.parts.specs.Tests.{isOut}
 use Rattle.network.specs.Arrays.{vacantNode}

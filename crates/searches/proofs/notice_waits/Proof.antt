@@ -7,8 +7,8 @@ use native.Mathlib.Omega.{arith}
 use native.Mathlib.Numerals.{add-one}
 use borrow.Author.Needs.{needs}
 use lib.ListN.{length, take}
-use Rattle.truth.specs.Tests.{any}
-use Rattle.truth.proofs.TestLaws.{any-take}
+use Rattle.predicates.specs.Tests.{any}
+use Rattle.predicates.proofs.TestLaws.{any-take}
 use Rattle.protocol.specs.State.{isNoticeTo}
 use Rattle.network.proofs.Places.{zeroMessage}
 use Rattle.searches.proofs.notice_waits.Statement.{statement}

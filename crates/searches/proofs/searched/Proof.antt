@@ -6,7 +6,7 @@ use mathlib.Core.Bool.{Bool, false, not}
 use borrow.Author.Needs.{needs}
 use lib.Dec.{eqb}
 use lib.ListN.{getD, take}
-use Rattle.truth.specs.Tests.{everyBelow, any}
+use Rattle.predicates.specs.Tests.{everyBelow, any}
 use Rattle.node.specs.Shape.{capacity}
 use Rattle.parts.specs.Tests.{isOut}
 use Rattle.protocol.specs.State.{queueLimit, isNoticeTo}

@@ -42,9 +42,9 @@ use Rattle.stores.proofs.Places.{a-change, Known, known, lies, change-typed}
 use Rattle.stores.proofs.Calling.{calls-plain}
 use Rattle.stores.proofs.Lending.{Lends, lends, calls-lent, calls-giving}
 use Rattle.report.specs.declared.Report.{Report}
-use Rattle.settling.specs.Settling.{decided}
+use Rattle.decision.specs.Decided.{decided}
 use Rattle.ruling.specs.Rulings.{decisionOn}
-use Rattle.settling.proofs.Decision.Laws as decision-laws
+use Rattle.decision.proofs.Decision.Laws as decision-laws
 use Rattle.engine.specs.Outcomes.{reported, counted, applyOf}
 use Rattle.engine.proofs.CallLaws.{acted}
 use Rattle.ruling.proofs.Values.{a-call, a-decision, a-report, IsOf, call-typed, decision-typed, report-typed}
@@ -56,14 +56,14 @@ use Rattle.stores.proofs.commit as commit
 use Rattle.stores.proofs.commit.Symbol as commit-def
 use Rattle.stores.proofs.commit.Symbol.{name as #stores·commit}
 use Rattle.stores.proofs.commit.Met as commit-met
-use Rattle.settling.proofs.change_in as change-in
-use Rattle.settling.proofs.change_in.Symbol as change-in-def
-use Rattle.settling.proofs.change_in.Symbol.{name as #settling·change-in}
-use Rattle.settling.proofs.change_in.Met as change-in-met
-use Rattle.settling.proofs.report_in as report-in
-use Rattle.settling.proofs.report_in.Symbol as report-in-def
-use Rattle.settling.proofs.report_in.Symbol.{name as #settling·report-in}
-use Rattle.settling.proofs.report_in.Met as report-in-met
+use Rattle.decision.proofs.change_in as change-in
+use Rattle.decision.proofs.change_in.Symbol as change-in-def
+use Rattle.decision.proofs.change_in.Symbol.{name as #decision·change-in}
+use Rattle.decision.proofs.change_in.Met as change-in-met
+use Rattle.decision.proofs.report_in as report-in
+use Rattle.decision.proofs.report_in.Symbol as report-in-def
+use Rattle.decision.proofs.report_in.Symbol.{name as #decision·report-in}
+use Rattle.decision.proofs.report_in.Met as report-in-met
 use Rattle.engine.proofs.in_place.act as this
 use Rattle.engine.proofs.in_place.act.Key.{name as #engine·in-place·act}
 use Rattle.engine.proofs.in_place.act.Statement.{statement}
@@ -97,9 +97,9 @@ module _ {M : Type 1} (𝓤 : URA M) (H : Heap 𝓤) (A : Atoms 𝓤) (W : Given
 -- ---- the walk
 module _ {M : Type 1} (𝓤 : URA M) (H : Heap 𝓤) (A : Atoms 𝓤) (W : Given 𝓤 H A) (at-mem : Memory → SProp 𝓤) (run : Routine → Fun 𝓤) (𝓣 : Tables 𝓤 H)
     (known-decide : Triple 𝓤 (𝓣 .C #ruling·decide-in-place) (Decide 𝓤 H A at-mem run))
-    (known-change : Triple 𝓤 (𝓣 .C #settling·change-in) (ChangeIn 𝓤 H A at-mem run))
+    (known-change : Triple 𝓤 (𝓣 .C #decision·change-in) (ChangeIn 𝓤 H A at-mem run))
     (known-commit : Triple 𝓤 (𝓣 .C #stores·commit) (Commit 𝓤 H A at-mem run))
-    (known-report : Triple 𝓤 (𝓣 .C #settling·report-in) (ReportIn 𝓤 H A at-mem run))
+    (known-report : Triple 𝓤 (𝓣 .C #decision·report-in) (ReportIn 𝓤 H A at-mem run))
     (κ : Lft) (q : Share) (b o : ℕ) (γ : GName) (n : Network) (c : Call) where
   abbrev Ends : Report → Network → Type 0
   Ends r m = reported m r ≡ counted (applyOf n c)
@@ -143,9 +143,9 @@ module _ {M : Type 1} (𝓤 : URA M) (H : Heap 𝓤) (A : Atoms 𝓤) (W : Given
 
 module _ {M : Type 1} (𝓤 : URA M) (H : Heap 𝓤) (A : Atoms 𝓤) (W : Given 𝓤 H A) (at-mem : Memory → SProp 𝓤) (run : Routine → Fun 𝓤) (𝓣 : Tables 𝓤 H)
     (known-decide : Triple 𝓤 (𝓣 .C #ruling·decide-in-place) (Decide 𝓤 H A at-mem run))
-    (known-change : Triple 𝓤 (𝓣 .C #settling·change-in) (ChangeIn 𝓤 H A at-mem run))
+    (known-change : Triple 𝓤 (𝓣 .C #decision·change-in) (ChangeIn 𝓤 H A at-mem run))
     (known-commit : Triple 𝓤 (𝓣 .C #stores·commit) (Commit 𝓤 H A at-mem run))
-    (known-report : Triple 𝓤 (𝓣 .C #settling·report-in) (ReportIn 𝓤 H A at-mem run)) where
+    (known-report : Triple 𝓤 (𝓣 .C #decision·report-in) (ReportIn 𝓤 H A at-mem run)) where
   meets : Meets 𝓤 H A this.signature (WpFn 𝓤 H (𝓣 .C) (𝓣 .Λ) code.function) (this.spec 𝓤 H A at-mem run)
   meets = framed 𝓤 H A W (a-call ∷ []) a-report (this.clauses 𝓤 H A at-mem run) (λ κs n a. wellFormed n ≡ true) (λ κs n a r m. reported m r ≡ counted (applyOf n (a .0)))
       (λ κs x a g. id⊢ 𝓤 _) (λ κs x a g r m. id⊢ 𝓤 _) (WpFn 𝓤 H (𝓣 .C) (𝓣 .Λ) code.function) (WpFn-mono 𝓤 H (W .laws) 𝓣 code.function)
@@ -158,6 +158,6 @@ act-spec 𝓤 H 𝓜 𝓖 𝓡 =
     (tables 𝓤 H 𝓜 𝓡 code.env .C) (tables 𝓤 H 𝓜 𝓡 code.env .Λ) #engine·in-place·act code.function (code.unfolded 𝓤 H 𝓜 𝓡)
     (meets 𝓤 H (𝓖 .A) (givenOf 𝓤 H 𝓜 𝓖) (𝓜 .mem) (𝓡 .run) (tablesOf 𝓤 H 𝓜 (tables 𝓤 H 𝓜 𝓡 code.env))
     (cited 𝓤 H (Decide 𝓤 H (𝓖 .A) (𝓜 .mem) (𝓡 .run)) 𝓜 𝓡 code.env #ruling·decide-in-place decide-def.routine code.calls-ruling·decide-in-place (decide-met.met 𝓤 H 𝓜 𝓖 𝓡))
-    (cited 𝓤 H (ChangeIn 𝓤 H (𝓖 .A) (𝓜 .mem) (𝓡 .run)) 𝓜 𝓡 code.env #settling·change-in change-in-def.routine code.calls-settling·change-in (change-in-met.met 𝓤 H 𝓜 𝓖 𝓡))
+    (cited 𝓤 H (ChangeIn 𝓤 H (𝓖 .A) (𝓜 .mem) (𝓡 .run)) 𝓜 𝓡 code.env #decision·change-in change-in-def.routine code.calls-decision·change-in (change-in-met.met 𝓤 H 𝓜 𝓖 𝓡))
     (cited 𝓤 H (Commit 𝓤 H (𝓖 .A) (𝓜 .mem) (𝓡 .run)) 𝓜 𝓡 code.env #stores·commit commit-def.routine code.calls-stores·commit (commit-met.met 𝓤 H 𝓜 𝓖 𝓡))
-    (cited 𝓤 H (ReportIn 𝓤 H (𝓖 .A) (𝓜 .mem) (𝓡 .run)) 𝓜 𝓡 code.env #settling·report-in report-in-def.routine code.calls-settling·report-in (report-in-met.met 𝓤 H 𝓜 𝓖 𝓡)))
+    (cited 𝓤 H (ReportIn 𝓤 H (𝓖 .A) (𝓜 .mem) (𝓡 .run)) 𝓜 𝓡 code.env #decision·report-in report-in-def.routine code.calls-decision·report-in (report-in-met.met 𝓤 H 𝓜 𝓖 𝓡)))

@@ -29,7 +29,7 @@ use denote.Triple.Spec.{Meets, tripleOf}
 use denote.Triple.Statement.{Contract, Triple}
 use denote.Triple.Table.{entered, cited}
 use borrow.Author.Tests.{ltb-true}
-use Rattle.truth.proofs.Laws.{both}
+use Rattle.predicates.proofs.Laws.{both}
 use Rattle.network.specs.declared.Network.{Network}
 use Rattle.network.specs.Arrays.{wellFormed}
 use Rattle.network.proofs.Network as net

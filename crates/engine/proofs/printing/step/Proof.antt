@@ -1,5 +1,5 @@
 -- `engine::printing::step` meets its contract: a walk of its MIR, by hand. The borrow of what is kept is opened, and the network in it is lent to
--- `perform`, which does what is asked at the cursor; what is kept is then whole again around the next network, and the borrow is closed at it. The
+-- `execute`, which does what is asked at the cursor; what is kept is then whole again around the next network, and the borrow is closed at it. The
 -- script is read by `ask` at its own lifetime, and the text is given to `leave_record` as it came. Assumes nothing.
 use mathlib.Core.Path.{refl}
 use Prim.Native.Nat.{ℕ, _+_}
@@ -78,10 +78,10 @@ use Rattle.task.proofs.ask as ask
 use Rattle.task.proofs.ask.Symbol as ask-def
 use Rattle.task.proofs.ask.Symbol.{name as #task·ask}
 use Rattle.task.proofs.ask.Met as ask-thm
-use Rattle.engine.proofs.in_place.perform as perform
-use Rattle.engine.proofs.in_place.perform.Symbol as perform-def
-use Rattle.engine.proofs.in_place.perform.Symbol.{name as #engine·in-place·perform}
-use Rattle.engine.proofs.in_place.perform.Met as perform-thm
+use Rattle.engine.proofs.in_place.execute as execute
+use Rattle.engine.proofs.in_place.execute.Symbol as execute-def
+use Rattle.engine.proofs.in_place.execute.Symbol.{name as #engine·in-place·execute}
+use Rattle.engine.proofs.in_place.execute.Met as execute-thm
 use Rattle.progress.proofs.leave_record as leave
 use Rattle.progress.proofs.leave_record.Symbol as leave-def
 use Rattle.progress.proofs.leave_record.Symbol.{name as #progress·leave-record}
@@ -107,16 +107,16 @@ module _ {M : Type 1} (𝓤 : URA M) (H : Heap 𝓤) (A : Atoms 𝓤) (at-mem : 
   abbrev Ask : Contract 𝓤
   Ask = tripleOf 𝓤 H A ask.signature (ask.spec 𝓤 H A at-mem run)
 
-  abbrev Perform : Contract 𝓤
-  Perform = tripleOf 𝓤 H A perform.signature (perform.spec 𝓤 H A at-mem run)
+  abbrev Execute : Contract 𝓤
+  Execute = tripleOf 𝓤 H A execute.signature (execute.spec 𝓤 H A at-mem run)
 
   abbrev Leave : Contract 𝓤
   Leave = tripleOf 𝓤 H A leave.signature (leave.spec 𝓤 H A at-mem run)
 
 module _ {M : Type 1} (𝓤 : URA M) (H : Heap 𝓤) (A : Atoms 𝓤) (W : Given 𝓤 H A) (at-mem : Memory → SProp 𝓤) (run : Routine → Fun 𝓤) where
-  -- `perform` can be lent a network that lies in memory
-  abbrev perform-lends : (b o : ℕ) (n : Network) (t : Task) → IsOf a-task t → Allowed n t → Lends b o 𝓤 H A a-report (Reports (doneOn n t)) (Perform 𝓤 H A at-mem run) n
-  perform-lends b o n t is asks = lends 𝓤 H A W (a-task ∷ []) a-report (perform.clauses 𝓤 H A at-mem run) b o n (λ κs. (t, tt)) (λ k. tt) (Allowed n t) (Reports (doneOn n t)) (λ κs. (is, tt))
+  -- `execute` can be lent a network that lies in memory
+  abbrev execute-lends : (b o : ℕ) (n : Network) (t : Task) → IsOf a-task t → Allowed n t → Lends b o 𝓤 H A a-report (Reports (doneOn n t)) (Execute 𝓤 H A at-mem run) n
+  execute-lends b o n t is asks = lends 𝓤 H A W (a-task ∷ []) a-report (execute.clauses 𝓤 H A at-mem run) b o n (λ κs. (t, tt)) (λ k. tt) (Allowed n t) (Reports (doneOn n t)) (λ κs. (is, tt))
       (λ k. id⊢ 𝓤 _) (λ k r zs. id⊢ 𝓤 _) asks
 
 module _ {M : Type 1} (𝓤 : URA M) (H : Heap 𝓤) (A : Atoms 𝓤) (W : Given 𝓤 H A) (at-mem : Memory → SProp 𝓤) (run : Routine → Fun 𝓤) (κs : Lfts 3) (qs : Shares 3) (x : RefT Kept) (s t : RefT (List ℕ))
@@ -212,7 +212,7 @@ module _ {M : Type 1} (𝓤 : URA M) (H : Heap 𝓤) (A : Atoms 𝓤) (W : Given
       had ! P.the-type P′.the-plain r _ is $ done !
 
   -- ---- the MIR
-  module _ (𝓣 : Tables 𝓤 H) (known-ask : Triple 𝓤 (𝓣 .C #task·ask) (Ask 𝓤 H A at-mem run)) (known-perform : Triple 𝓤 (𝓣 .C #engine·in-place·perform) (Perform 𝓤 H A at-mem run))
+  module _ (𝓣 : Tables 𝓤 H) (known-ask : Triple 𝓤 (𝓣 .C #task·ask) (Ask 𝓤 H A at-mem run)) (known-execute : Triple 𝓤 (𝓣 .C #engine·in-place·execute) (Execute 𝓤 H A at-mem run))
       (known-leave : Triple 𝓤 (𝓣 .C #progress·leave-record) (Leave 𝓤 H A at-mem run)) (may : MayStep script from-here) (is-p : Is P.the-row p (progressVal p ∷ [])) where
     -- over the places of its locals
     module _ (l₀ l₁ l₂ l₃ l₄ l₅ l₆ l₇ l₈ l₉ l₁₀ l₁₁ : ℕ) where
@@ -242,22 +242,22 @@ module _ {M : Type 1} (𝓤 : URA M) (H : Heap 𝓤) (A : Atoms 𝓤) (W : Given
       Dies = ‵ (fdies P′.mir l₀) ∷ ‵ (fdies kept′ l₁) ∷ ‵ (fdies slice l₂) ∷ ‵ (fdies text l₃) ∷ ‵ (fdies P′.mir l₄) ∷ ‵ (fdies number l₅) ∷ ‵ (fdies As′.mir l₆) ∷ ‵ (fdies task-laws.mir l₇) ∷ ‵
           (fdies Report′.mir l₈) ∷ ‵ (fdies number l₉) ∷ ‵ (fdies network′ l₁₀) ∷ ‵ (fdies text′ l₁₁) ∷ []
 
-      -- before the first statement; and after `perform`, which has reported and left the network m
+      -- before the first statement; and after `execute`, which has reported and left the network m
       abbrev Begins : List (Item 𝓤)
       Begins = ‵ (lies N.the-row b (o + 0) n) ∷ Around ∷ ‵ Reads ∷ ‵ (flft κ₁ q₁) ∷ ‵ Writes ∷ Token
           ∷ ‵ (froom P′.mir l₀ 0) ∷ ‵ (fat fullShare kept′ l₁ 0 (vptr b o)) ∷ ‵ (fat fullShare slice l₂ 0 (only (slice-vals s))) ∷ ‵ (fat fullShare text l₃ 0 (only (ptr-vals t))) ∷ ‵
           (fat fullShare P′.mir l₄ 0 (progressVal p)) ∷ ‵ (froom number l₅ 0) ∷ ‵ (froom As′.mir l₆ 0) ∷ ‵ (froom task-laws.mir l₇ 0) ∷ ‵ (froom Report′.mir l₈ 0) ∷ ‵ (froom number l₉ 0) ∷ ‵
           (froom network′ l₁₀ 0) ∷ ‵ (froom text′ l₁₁ 0) ∷ Dies
 
-      abbrev Performed : Asked → Report → Network → List (Item 𝓤)
-      Performed a report m = ‵ (lies N.the-row b (o + 0) m) ∷ ‵ (flft κ₁ q₁) ∷ Around ∷ ‵ Writes ∷ Token
+      abbrev Executed : Asked → Report → Network → List (Item 𝓤)
+      Executed a report m = ‵ (lies N.the-row b (o + 0) m) ∷ ‵ (flft κ₁ q₁) ∷ Around ∷ ‵ Writes ∷ Token
           ∷ ‵ (froom P′.mir l₀ 0) ∷ ‵ (froom kept′ l₁ 0) ∷ ‵ (froom slice l₂ 0) ∷ ‵ (fat fullShare text l₃ 0 (only (ptr-vals t))) ∷ ‵ (fat fullShare P′.mir l₄ 0 (progressVal p)) ∷ ‵
           (froom number l₅ 0) ∷ ‵ (fat fullShare As′.mir l₆ 0 (askedVal a)) ∷ ‵ (froom task-laws.mir l₇ 0) ∷ ‵ (fat fullShare Report′.mir l₈ 0 (word a-report report)) ∷ ‵ (froom number l₉ 0) ∷ ‵
           (froom network′ l₁₀ 0) ∷ ‵ (froom text′ l₁₁ 0) ∷ Dies
 
       module _ (l : Lengths n) where
         ends : (a : Asked) (report : Report) (m : Network) → Is As.the-row a (askedVal a ∷ []) → IsOf a-report report → Done script n l (may .0) (reported m report) (p .at) a
-            → Seq (Go {0}) W (Performed a report m) (runs (𝓣 .C) (𝓣 .Λ) En steps.t-6 (atRet En Post))
+            → Seq (Go {0}) W (Executed a report m) (runs (𝓣 .C) (𝓣 .Λ) En steps.t-6 (atRet En Post))
         ends a report m is-a is-report did =
             let fields = LL.owed As.the-type As′.the-laws a _ is-a in
             -- [the network; the script's token; what is around the network; the text; its token; _0; _1; …; _11; …]
@@ -298,9 +298,9 @@ module _ {M : Type 1} (𝓤 : URA M) (H : Heap 𝓤) (A : Atoms 𝓤) (W : Given
             lands-in ! 11 refl (typed As.the-type As′.the-laws a _ is-v 𝓤 H A W) $ rewrite ! 11 (λ (u : Val). ‵ (fat fullShare As′.mir l₆ 0 u)) (is-val As.the-type As′.the-laws a _ is-v) refl $
             sets ! 12 refl (of-opd ! (load ! (from ! (fld ! refl (stop !))) (look-in ! 11 (sub ! 0 refl (whole !))))) (task-typed 𝓤 H A W (a .task) (fields .0)) $
             sets ! 15 refl (addr ! (from ! (hop ! (look ! 6 refl) (fld ! {τ = N′.mir} {d = 0} refl (stop !))))) (tt, tt) $
-            -- `perform`, on the network where it lies
-            move ! (1 ∷ []) $ calls-giving ! b (o + 0) (fmOf 𝓤 H (W .laws) 𝓣) (Perform 𝓤 H A at-mem run) known-perform a-report (Reports (doneOn n (a .task))) n
-            (perform-lends 𝓤 H A W at-mem run b (o + 0) n (a .task) (fields .0) (allowed n (may .0) (a .task)))
+            -- `execute`, on the network where it lies
+            move ! (1 ∷ []) $ calls-giving ! b (o + 0) (fmOf 𝓤 H (W .laws) 𝓣) (Execute 𝓤 H A at-mem run) known-execute a-report (Reports (doneOn n (a .task))) n
+            (execute-lends 𝓤 H A W at-mem run b (o + 0) n (a .task) (fields .0) (allowed n (may .0) (a .task)))
             (λ j. (and-then ! (var ! 16 refl) (and-then ! (var ! 13 refl) (no-more !)))) (λ report m is-report did.
             lands-in ! 13 refl (report-typed 𝓤 H A W report is-report) $ forget ! 6 refl $ forget ! 7 refl $ forget ! 10 refl $ forget ! 12 refl $ forget ! 15 refl $
             ends a report m is-a is-report (does script n l (may .0) (p .at) (may .1) a asks (reported m report) did)))))
@@ -328,13 +328,13 @@ module _ {M : Type 1} (𝓤 : URA M) (H : Heap 𝓤) (A : Atoms 𝓤) (W : Given
 
 module _ {M : Type 1} (𝓤 : URA M) (H : Heap 𝓤) (A : Atoms 𝓤) (W : Given 𝓤 H A) (at-mem : Memory → SProp 𝓤) (run : Routine → Fun 𝓤) (𝓣 : Tables 𝓤 H) (known-ask : Triple 𝓤 (𝓣 .C #task·ask)
     (Ask 𝓤 H A at-mem run))
-    (known-perform : Triple 𝓤 (𝓣 .C #engine·in-place·perform) (Perform 𝓤 H A at-mem run)) (known-leave : Triple 𝓤 (𝓣 .C #progress·leave-record) (Leave 𝓤 H A at-mem run)) where
+    (known-execute : Triple 𝓤 (𝓣 .C #engine·in-place·execute) (Execute 𝓤 H A at-mem run)) (known-leave : Triple 𝓤 (𝓣 .C #progress·leave-record) (Leave 𝓤 H A at-mem run)) where
   step-walks : Walks 𝓤 H A this.ended stayed (WpFn 𝓤 H (𝓣 .C) (𝓣 .Λ) code.function) (this.clauses 𝓤 H A at-mem run)
   step-walks = walked 𝓤 H A this.ended stayed (this.clauses 𝓤 H A at-mem run) (WpFn 𝓤 H (𝓣 .C) (𝓣 .Λ) code.function)
       (λ κs. (ptr-vals, (slice-vals, (ptr-vals, (LL.vals P.the-type P′.the-laws, tt)))))
       (λ κs. (mut-tells (named 0) (κs .0) K.the-row, (shr-slice-tells (named 1) (κs .1 .0) u8, (mut-tells (named 2) (κs .1 .1 .0) Text, (LL.tells P.the-type P′.the-laws, tt)))))
       (λ κs qs bounds a g are. needs 𝓤 (MayStep (a .1 .0 .now) (record { kept = a .0 .now; text = a .1 .1 .0 .now; progress = a .1 .1 .1 .0 })) _ (λ may.
-      walk 𝓤 H A W at-mem run κs qs (a .0) (a .1 .0) (a .1 .1 .0) (a .1 .1 .1 .0) 𝓣 known-ask known-perform known-leave may (are .1 .1 .1 .0) (are .1 .0)))
+      walk 𝓤 H A W at-mem run κs qs (a .0) (a .1 .0) (a .1 .1 .0) (a .1 .1 .1 .0) 𝓣 known-ask known-execute known-leave may (are .1 .1 .1 .0) (are .1 .0)))
 
   goes : AllGo 𝓤 H A W 3 (this.signature .params) (this.ended .kept) stayed
   goes = (
@@ -355,5 +355,5 @@ step-spec 𝓤 H 𝓜 𝓖 𝓡 =
     (tables 𝓤 H 𝓜 𝓡 code.env .C) (tables 𝓤 H 𝓜 𝓡 code.env .Λ) #engine·printing·step code.function (code.unfolded 𝓤 H 𝓜 𝓡)
     (step-meets 𝓤 H (𝓖 .A) (givenOf 𝓤 H 𝓜 𝓖) (𝓜 .mem) (𝓡 .run) (tablesOf 𝓤 H 𝓜 (tables 𝓤 H 𝓜 𝓡 code.env))
     (cited 𝓤 H (Ask 𝓤 H (𝓖 .A) (𝓜 .mem) (𝓡 .run)) 𝓜 𝓡 code.env #task·ask ask-def.routine code.calls-task·ask (ask-thm.met 𝓤 H 𝓜 𝓖 𝓡))
-    (cited 𝓤 H (Perform 𝓤 H (𝓖 .A) (𝓜 .mem) (𝓡 .run)) 𝓜 𝓡 code.env #engine·in-place·perform perform-def.routine code.calls-engine·in-place·perform (perform-thm.met 𝓤 H 𝓜 𝓖 𝓡))
+    (cited 𝓤 H (Execute 𝓤 H (𝓖 .A) (𝓜 .mem) (𝓡 .run)) 𝓜 𝓡 code.env #engine·in-place·execute execute-def.routine code.calls-engine·in-place·execute (execute-thm.met 𝓤 H 𝓜 𝓖 𝓡))
     (cited 𝓤 H (Leave 𝓤 H (𝓖 .A) (𝓜 .mem) (𝓡 .run)) 𝓜 𝓡 code.env #progress·leave-record leave-def.routine code.calls-progress·leave-record (leave-thm.met 𝓤 H 𝓜 𝓖 𝓡)))

@@ -5,13 +5,13 @@ use mathlib.Core.Path.{_≡_, sym, _∙_}
 use mathlib.Core.Bool.{Bool, true, _&&_}
 use borrow.Author.Needs.{needs}
 use borrow.Author.Tests.{not-true, not-false}
-use Rattle.truth.proofs.Laws.{both}
+use Rattle.predicates.proofs.Laws.{both}
 use Rattle.node.specs.Shape.{capacity}
 use Rattle.protocol.specs.State.{queueLimit}
 use Rattle.network.specs.declared.Network.{Network}
 use Rattle.network.specs.Arrays.{wellFormed}
 use Rattle.network.proofs.Lengths.{Lengths, lengths}
-use Rattle.network.proofs.Clauses.{messagePlacesFit, keysDiffer, dealingsFit, past-limits, within-limits, well-formed-tested, keys-tested, waiting-fit-limit, dealings-tested}
+use Rattle.network.proofs.Clauses.{messagePlacesFit, keysDiffer, exchangesFit, past-limits, within-limits, well-formed-tested, keys-tested, waiting-fit-limit, exchanges-tested}
 use Rattle.network.proofs.Network.is_well_formed.Statement.{statement}
 use Rattle.network.proofs.Network.is_well_formed.Tie as tie
 
@@ -30,10 +30,10 @@ limits : (c : tie.After-message-places-fit) → (network c .count ≤ capacity) 
 limits c = within-limits (network c) (c .before .before .before .before .before .if1 .left)
 
 tested : (c : tie.After-message-places-fit)
-    → wellFormed (network c) ≡ (placesFit c && (keysDiffer (network c) && dealingsFit (network c)))
+    → wellFormed (network c) ≡ (placesFit c && (keysDiffer (network c) && exchangesFit (network c)))
 tested c =
     let (few, little) = limits c in
-    well-formed-tested (network c) (sizes c) few little ∙ (λ i. (sym (c .before .node-places-fit .ensures) i && sym (c .message-places-fit .ensures) i) && (keysDiffer (network c) && dealingsFit (network c)))
+    well-formed-tested (network c) (sizes c) few little ∙ (λ i. (sym (c .before .node-places-fit .ensures) i && sym (c .message-places-fit .ensures) i) && (keysDiffer (network c) && exchangesFit (network c)))
 
 messages-fit : (c : tie.Else2) → messagePlacesFit (network (c .before)) ≡ true
 messages-fit c = sym (c .before .message-places-fit .ensures) ∙ both (c .before .before .node-places-fit .result) _ (not-false _ (c .if2 .left)) .1
@@ -48,8 +48,8 @@ returns-2 c = sym (rw (not-true (placesFit (c .before)) (c .if2 .taken)) at (tes
 keys-differ-requires : tie.Need-keys-differ-requires
 keys-differ-requires c κs = limits (c .before .before .before) .0
 
-dealings-fit-requires : tie.Need-dealings-fit-requires
-dealings-fit-requires c κs =
+exchanges-fit-requires : tie.Need-exchanges-fit-requires
+exchanges-fit-requires c κs =
     let fitting = c .before .before .before .before in
     let (few, little) = limits (fitting .before) in
     (little, waiting-fit-limit (network (fitting .before)) (sizes (fitting .before)) few little (messages-fit fitting))
@@ -60,8 +60,8 @@ returns-3 c =
     let n = network (fitting .before) in
     let (few, little) = limits (fitting .before) in
     let keys = c .before .before .keys-differ .ensures ∙ keys-tested n (sizes (fitting .before)) few little (c .before .before .before .before .keys-of .result) (c .before .before .before .before .keys-of .ensures) in
-    let dealings = c .dealings-fit .ensures ∙ dealings-tested n (sizes (fitting .before)) few little (messages-fit fitting) (c .before .allowances .result) (c .before .allowances .ok .1 .0 .1) (c .before .allowances .ensures) in
-    (λ i. keys i && dealings i) ∙ sym (rw (not-false (placesFit (fitting .before)) (fitting .if2 .left)) at (tested (fitting .before)))
+    let exchanges = c .exchanges-fit .ensures ∙ exchanges-tested n (sizes (fitting .before)) few little (messages-fit fitting) (c .before .allowances .result) (c .before .allowances .ok .1 .0 .1) (c .before .allowances .ensures) in
+    (λ i. keys i && exchanges i) ∙ sym (rw (not-false (placesFit (fitting .before)) (fitting .if2 .left)) at (tested (fitting .before)))
 
 pub is-well-formed-spec : {M : Type 1} → statement M
 is-well-formed-spec =
@@ -76,5 +76,5 @@ is-well-formed-spec =
     (λ c κs. tt)
     keys-differ-requires
     (λ c κs. tt)
-    dealings-fit-requires
+    exchanges-fit-requires
     returns-3)

@@ -6,14 +6,14 @@ use native.Mathlib.Omega.{arith}
 use borrow.Author.Needs.{needs}
 use lib.ListN.{length, getD, length-set}
 use Rattle.sequence.specs.Sequence.{firstSeq}
-use Rattle.protocol.specs.State.{dealings}
+use Rattle.protocol.specs.State.{exchanges}
 use Rattle.network.specs.Arrays.{vacantNode}
 use Rattle.network.proofs.Places.{one-more-stored}
 use Rattle.network.proofs.shape.allowances.Statement.{statement}
 use Rattle.network.proofs.shape.allowances.Tie as tie
 
 abbrev Inv-loop : tie.InvT-loop
-Inv-loop nodes allowed₀ i₀ allowed i = (i ≤ 32) × (length allowed ≡ 32) × ((u : ℕ) → u < i → getD allowed u 0 ≡ dealings (getD nodes u vacantNode .status))
+Inv-loop nodes allowed₀ i₀ allowed i = (i ≤ 32) × (length allowed ≡ 32) × ((u : ℕ) → u < i → getD allowed u 0 ≡ exchanges (getD nodes u vacantNode .status))
 
 abbrev μ-loop : tie.MeasureT-loop
 μ-loop nodes allowed₀ i₀ allowed i = 32 - i
@@ -26,7 +26,7 @@ unfolding firstSeq
 loop-again c =
     let turn = c .before .before .before in
     let (few, size, before) = turn .loop .inv in
-    (search needs, simp length-set size, one-more-stored (turn .loop .allowed) (turn .loop .i) _ 0 (λ u. dealings (getD (turn .before .args .t1) u vacantNode .status)) (omega arith) before (c .dealings-of .ensures))
+    (search needs, simp length-set size, one-more-stored (turn .loop .allowed) (turn .loop .i) _ 0 (λ u. exchanges (getD (turn .before .args .t1) u vacantNode .status)) (omega arith) before (c .exchanges-of .ensures))
 
 returns : tie.Need-returns Inv-loop μ-loop
 returns c = λ u k. c .before .loop .inv .2 u (omega arith)

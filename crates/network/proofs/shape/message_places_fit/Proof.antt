@@ -7,7 +7,7 @@ use native.Mathlib.Omega.{arith}
 use native.Mathlib.Numerals.{add-one}
 use borrow.Author.Needs.{needs}
 use lib.ListN.{length}
-use Rattle.truth.specs.Tests.{everyBelow}
+use Rattle.predicates.specs.Tests.{everyBelow}
 use Rattle.parts.specs.Shape.{messageFits}
 use Rattle.network.specs.Arrays.{vacantMessage, isVacantMessage}
 use Rattle.network.specs.Walks.{placeFits}

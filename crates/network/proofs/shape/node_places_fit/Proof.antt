@@ -7,7 +7,7 @@ use native.Mathlib.Omega.{arith}
 use native.Mathlib.Numerals.{add-one}
 use borrow.Author.Needs.{needs}
 use lib.ListN.{length}
-use Rattle.truth.specs.Tests.{everyBelow}
+use Rattle.predicates.specs.Tests.{everyBelow}
 use Rattle.sequence.specs.Sequence.{firstSeq}
 use Rattle.node.specs.Shape.{nodeFits}
 use Rattle.network.specs.Arrays.{vacantNode, isVacantNode}

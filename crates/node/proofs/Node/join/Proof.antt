@@ -21,7 +21,7 @@ returns-2 c =
     let peers = c .before .before in
     let u = peers .before .before .before .args in
     let test = all-three (peers .before .before .is-well-formed .ensures) (peers .before .peer-fits .ensures) (peers .peer-fits2 .ensures) in
-    c .join-formed .ensures ∙ join-tested (u .me) (u .self) (u .left) (u .right) (test ∙ c .before .if1 .left)
+    c .join-unchecked .ensures ∙ join-tested (u .me) (u .self) (u .left) (u .right) (test ∙ c .before .if1 .left)
 
 pub join-spec : {M : Type 1} → statement M
 join-spec =

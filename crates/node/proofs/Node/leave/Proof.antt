@@ -16,7 +16,7 @@ returns-2 : tie.Need-returns-2
 returns-2 c =
     let tested = c .before .before in
     let u = tested .before .args in
-    c .leave-formed .ensures ∙ leave-tested (u .me) (u .self) (ap not (sym (tested .is-well-formed .ensures)) ∙ c .before .if1 .left)
+    c .leave-unchecked .ensures ∙ leave-tested (u .me) (u .self) (ap not (sym (tested .is-well-formed .ensures)) ∙ c .before .if1 .left)
 
 pub leave-spec : {M : Type 1} → statement M
 leave-spec =

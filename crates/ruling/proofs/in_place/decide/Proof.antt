@@ -51,18 +51,18 @@ use Rattle.stores.proofs.Places.{lies}
 use Rattle.stores.proofs.Reading.{some-spots, a-sight, an-arrival, a-find, an-order}
 use Rattle.stores.proofs.Calling.{calls-plain}
 use Rattle.stores.proofs.Lending.{Lends, lends, calls-giving}
-use Rattle.settling.specs.declared.Decision.{Decision}
-use Rattle.settling.specs.Settling.{decided, spotsOf}
-use Rattle.decision.specs.Decisions.{orderDecision, deliveryDecision}
+use Rattle.decision.specs.declared.Decision.{Decision}
+use Rattle.decision.specs.Decided.{decided, spotsOf}
+use Rattle.rules.specs.Decisions.{orderDecision, deliveryDecision}
 use Rattle.ruling.specs.Rulings.{decisionOn}
-use Rattle.settling.proofs.Decision.Laws as decision-laws
+use Rattle.decision.proofs.Decision.Laws as decision-laws
 use Rattle.stores.proofs.Variants.{tag-of, field-of}
 use Rattle.ruling.proofs.RulingLaws.{order-decided, delivery-decided}
 use Rattle.ruling.proofs.Values.{a-call, a-decision, IsOf, order-typed, call-typed, spots-typed, sight-typed, arrival-typed, found-typed, decision-typed, by-call}
-use Rattle.settling.proofs.spots as spots
-use Rattle.settling.proofs.spots.Symbol as spots-def
-use Rattle.settling.proofs.spots.Symbol.{name as #settling·spots}
-use Rattle.settling.proofs.spots.Met as spots-met
+use Rattle.decision.proofs.spots as spots
+use Rattle.decision.proofs.spots.Symbol as spots-def
+use Rattle.decision.proofs.spots.Symbol.{name as #decision·spots}
+use Rattle.decision.proofs.spots.Met as spots-met
 use Rattle.readings.proofs.look as look
 use Rattle.readings.proofs.look.Symbol as look-def
 use Rattle.readings.proofs.look.Symbol.{name as #readings·look}
@@ -71,18 +71,18 @@ use Rattle.readings.proofs.find as find
 use Rattle.readings.proofs.find.Symbol as find-def
 use Rattle.readings.proofs.find.Symbol.{name as #readings·find}
 use Rattle.readings.proofs.find.Met as find-met
-use Rattle.decision.proofs.decide_order as decide-order
-use Rattle.decision.proofs.decide_order.Symbol as decide-order-def
-use Rattle.decision.proofs.decide_order.Symbol.{name as #decision·decide-order}
-use Rattle.decision.proofs.decide_order.Met as decide-order-met
+use Rattle.rules.proofs.decide_order as decide-order
+use Rattle.rules.proofs.decide_order.Symbol as decide-order-def
+use Rattle.rules.proofs.decide_order.Symbol.{name as #rules·decide-order}
+use Rattle.rules.proofs.decide_order.Met as decide-order-met
 use Rattle.readings.proofs.meet as meet
 use Rattle.readings.proofs.meet.Symbol as meet-def
 use Rattle.readings.proofs.meet.Symbol.{name as #readings·meet}
 use Rattle.readings.proofs.meet.Met as meet-met
-use Rattle.decision.proofs.decide_delivery as decide-delivery
-use Rattle.decision.proofs.decide_delivery.Symbol as decide-delivery-def
-use Rattle.decision.proofs.decide_delivery.Symbol.{name as #decision·decide-delivery}
-use Rattle.decision.proofs.decide_delivery.Met as decide-delivery-met
+use Rattle.rules.proofs.decide_delivery as decide-delivery
+use Rattle.rules.proofs.decide_delivery.Symbol as decide-delivery-def
+use Rattle.rules.proofs.decide_delivery.Symbol.{name as #rules·decide-delivery}
+use Rattle.rules.proofs.decide_delivery.Met as decide-delivery-met
 use Rattle.ruling.proofs.in_place.decide as this
 use Rattle.ruling.proofs.in_place.decide.Key.{name as #ruling·in-place·decide}
 use Rattle.ruling.proofs.in_place.decide.Statement.{statement}
@@ -126,12 +126,12 @@ module _ {M : Type 1} (𝓤 : URA M) (H : Heap 𝓤) (A : Atoms 𝓤) (W : Given
 
 -- ---- the walk
 module _ {M : Type 1} (𝓤 : URA M) (H : Heap 𝓤) (A : Atoms 𝓤) (W : Given 𝓤 H A) (at-mem : Memory → SProp 𝓤) (run : Routine → Fun 𝓤) (𝓣 : Tables 𝓤 H)
-    (known-spots : Triple 𝓤 (𝓣 .C #settling·spots) (Spots-of 𝓤 H A at-mem run))
+    (known-spots : Triple 𝓤 (𝓣 .C #decision·spots) (Spots-of 𝓤 H A at-mem run))
     (known-look : Triple 𝓤 (𝓣 .C #readings·look) (Look 𝓤 H A at-mem run))
     (known-find : Triple 𝓤 (𝓣 .C #readings·find) (Find 𝓤 H A at-mem run))
-    (known-order : Triple 𝓤 (𝓣 .C #decision·decide-order) (DecideOrder 𝓤 H A at-mem run))
+    (known-order : Triple 𝓤 (𝓣 .C #rules·decide-order) (DecideOrder 𝓤 H A at-mem run))
     (known-meet : Triple 𝓤 (𝓣 .C #readings·meet) (Meet 𝓤 H A at-mem run))
-    (known-delivery : Triple 𝓤 (𝓣 .C #decision·decide-delivery) (DecideDelivery 𝓤 H A at-mem run))
+    (known-delivery : Triple 𝓤 (𝓣 .C #rules·decide-delivery) (DecideDelivery 𝓤 H A at-mem run))
     (κ : Lft) (q : Share) (b o : ℕ) (γ : GName) (n : Network) (c : Call) where
   abbrev Ends : Decision → Network → Type 0
   Ends r m = (decided r ≡ decisionOn n c) × (m ≡ n)
@@ -202,12 +202,12 @@ module _ {M : Type 1} (𝓤 : URA M) (H : Heap 𝓤) (A : Atoms 𝓤) (W : Given
       by ! (gives 𝓤 H A (a-decision .row) Ends κ q b o γ (word a-decision d) d m d-is (delivery-decided n c p v (decided d) e (meets .0) says, meets .1))))))))))))))))))
 
 module _ {M : Type 1} (𝓤 : URA M) (H : Heap 𝓤) (A : Atoms 𝓤) (W : Given 𝓤 H A) (at-mem : Memory → SProp 𝓤) (run : Routine → Fun 𝓤) (𝓣 : Tables 𝓤 H)
-    (known-spots : Triple 𝓤 (𝓣 .C #settling·spots) (Spots-of 𝓤 H A at-mem run))
+    (known-spots : Triple 𝓤 (𝓣 .C #decision·spots) (Spots-of 𝓤 H A at-mem run))
     (known-look : Triple 𝓤 (𝓣 .C #readings·look) (Look 𝓤 H A at-mem run))
     (known-find : Triple 𝓤 (𝓣 .C #readings·find) (Find 𝓤 H A at-mem run))
-    (known-order : Triple 𝓤 (𝓣 .C #decision·decide-order) (DecideOrder 𝓤 H A at-mem run))
+    (known-order : Triple 𝓤 (𝓣 .C #rules·decide-order) (DecideOrder 𝓤 H A at-mem run))
     (known-meet : Triple 𝓤 (𝓣 .C #readings·meet) (Meet 𝓤 H A at-mem run))
-    (known-delivery : Triple 𝓤 (𝓣 .C #decision·decide-delivery) (DecideDelivery 𝓤 H A at-mem run)) where
+    (known-delivery : Triple 𝓤 (𝓣 .C #rules·decide-delivery) (DecideDelivery 𝓤 H A at-mem run)) where
   meets : Meets 𝓤 H A this.signature (WpFn 𝓤 H (𝓣 .C) (𝓣 .Λ) code.function) (this.spec 𝓤 H A at-mem run)
   meets = framed 𝓤 H A W (a-call ∷ []) a-decision (this.clauses 𝓤 H A at-mem run) (λ κs n a. Unit {0}) (λ κs n a r m. (decided r ≡ decisionOn n (a .0)) × (m ≡ n))
       (λ κs x a g. factI 𝓤 (Unit {0}) _ tt) (λ κs x a g r m. id⊢ 𝓤 _) (WpFn 𝓤 H (𝓣 .C) (𝓣 .Λ) code.function) (WpFn-mono 𝓤 H (W .laws) 𝓣 code.function)
@@ -219,10 +219,10 @@ decide-spec 𝓤 H 𝓜 𝓖 𝓡 =
     entered 𝓤 H (tripleOf 𝓤 H (𝓖 .A) this.signature (this.spec 𝓤 H (𝓖 .A) (𝓜 .mem) (𝓡 .run)))
     (tables 𝓤 H 𝓜 𝓡 code.env .C) (tables 𝓤 H 𝓜 𝓡 code.env .Λ) #ruling·in-place·decide code.function (code.unfolded 𝓤 H 𝓜 𝓡)
     (meets 𝓤 H (𝓖 .A) (givenOf 𝓤 H 𝓜 𝓖) (𝓜 .mem) (𝓡 .run) (tablesOf 𝓤 H 𝓜 (tables 𝓤 H 𝓜 𝓡 code.env))
-    (cited 𝓤 H (Spots-of 𝓤 H (𝓖 .A) (𝓜 .mem) (𝓡 .run)) 𝓜 𝓡 code.env #settling·spots spots-def.routine code.calls-settling·spots (spots-met.met 𝓤 H 𝓜 𝓖 𝓡))
+    (cited 𝓤 H (Spots-of 𝓤 H (𝓖 .A) (𝓜 .mem) (𝓡 .run)) 𝓜 𝓡 code.env #decision·spots spots-def.routine code.calls-decision·spots (spots-met.met 𝓤 H 𝓜 𝓖 𝓡))
     (cited 𝓤 H (Look 𝓤 H (𝓖 .A) (𝓜 .mem) (𝓡 .run)) 𝓜 𝓡 code.env #readings·look look-def.routine code.calls-readings·look (look-met.met 𝓤 H 𝓜 𝓖 𝓡))
     (cited 𝓤 H (Find 𝓤 H (𝓖 .A) (𝓜 .mem) (𝓡 .run)) 𝓜 𝓡 code.env #readings·find find-def.routine code.calls-readings·find (find-met.met 𝓤 H 𝓜 𝓖 𝓡))
-    (cited 𝓤 H (DecideOrder 𝓤 H (𝓖 .A) (𝓜 .mem) (𝓡 .run)) 𝓜 𝓡 code.env #decision·decide-order decide-order-def.routine code.calls-decision·decide-order (decide-order-met.met 𝓤 H 𝓜 𝓖 𝓡))
+    (cited 𝓤 H (DecideOrder 𝓤 H (𝓖 .A) (𝓜 .mem) (𝓡 .run)) 𝓜 𝓡 code.env #rules·decide-order decide-order-def.routine code.calls-rules·decide-order (decide-order-met.met 𝓤 H 𝓜 𝓖 𝓡))
     (cited 𝓤 H (Meet 𝓤 H (𝓖 .A) (𝓜 .mem) (𝓡 .run)) 𝓜 𝓡 code.env #readings·meet meet-def.routine code.calls-readings·meet (meet-met.met 𝓤 H 𝓜 𝓖 𝓡))
-    (cited 𝓤 H (DecideDelivery 𝓤 H (𝓖 .A) (𝓜 .mem) (𝓡 .run)) 𝓜 𝓡 code.env #decision·decide-delivery decide-delivery-def.routine code.calls-decision·decide-delivery
+    (cited 𝓤 H (DecideDelivery 𝓤 H (𝓖 .A) (𝓜 .mem) (𝓡 .run)) 𝓜 𝓡 code.env #rules·decide-delivery decide-delivery-def.routine code.calls-rules·decide-delivery
     (decide-delivery-met.met 𝓤 H 𝓜 𝓖 𝓡)))
