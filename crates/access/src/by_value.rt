@@ -1,5 +1,5 @@
-// The arrays of a network by value: a sight, and a change carried out. Whole arrays of messages are handed on and not whole networks, since
-// each hand-over by value is a copy.
+// The arrays of a network by value: a sight, and a change carried out. Whole arrays of messages are handed on and not whole
+// networks, since each hand-over by value is a copy.
 ghost use mathlib.Core.List.{_∷_, _++_};
 ghost use mathlib.Core.Path.{_≡_};
 ghost use mathlib.Core.Bool.{_&&_, cond};
@@ -36,7 +36,7 @@ fn add(network: Network, node: Node) -> Network
     n
 }
 
-// "closes the gap": each later message moves one place down, and the last one's place is vacant.
+// R6.9: each later message moves up by one place, and the last one's place is vacant.
 fn close(messages: [Message; 64], last: usize, place: usize) -> [Message; 64]
     requires { ⌜ (place ≤ last) × (last < 64) ⌝ }
     ensures { λ r. ⌜ r ≡ without place (take (last + 1) messages) ++ vacantMessage ∷ drop (last + 1) messages ⌝ }
@@ -52,7 +52,7 @@ fn close(messages: [Message; 64], last: usize, place: usize) -> [Message; 64]
     queue
 }
 
-// The messages with a step's posts behind the first so many, "in the order named".
+// R6.9: the messages with a step's posts behind the first so many, in their order.
 fn post(messages: [Message; 64], waiting: usize, posts: Posts) -> [Message; 64]
     requires { ⌜ waiting + length (listed posts) ≤ 64 ⌝ }
     ensures { λ r. ⌜ r ≡ queued messages waiting (listed posts) ⌝ }

@@ -1,1 +1,1 @@
-// The fitter's cases of paper 01. Those marked † stand as a table in specs/Table.antt, under one proved claim.
+// R11.4: the cases that paper 01 marks †, as a table in specs/Table.antt, under one proved claim.

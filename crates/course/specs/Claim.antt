@@ -1,5 +1,6 @@
--- What a script does to the network, as a list of calls: after each of its records the network is the one that these calls make, so all that
--- is claimed of any list of calls holds of it, and the messages posted are theirs; and what its printout says. Definitions only.
+-- R10.11, what a script does to the network, as a list of calls: after each of its records the network is the one that these
+-- calls make, so all that is claimed of any list of calls holds of it, and the messages posted are theirs; and what its
+-- printout says. Definitions only.
 use Prim.Native.Nat.{ℕ, zero, suc}
 use mathlib.Core.Path.{_≡_}
 use mathlib.Core.List.{List, [], _∷_, _++_, map, List·Memᴰ}
@@ -22,7 +23,7 @@ use Rattle.printout.specs.Lines.{heading, lineOf}
 use Rattle.course.specs.Execution.{executeOf}
 use Rattle.course.specs.Run.{after}
 
--- the calls of a record: none where its serial is refused, and none for a question; "A run-down counts as the deliveries it makes."
+-- the calls of a record: none where its serial is refused, and none for a question; a drain counts as its deliveries (R10.1)
 abbrev pub callsOf : State → Record → List Call
 callsOf s (CallRecord call) = call ∷ []
 callsOf s (DeclareRecord (Value key)) = Order (Declare key) ∷ []
@@ -60,7 +61,7 @@ lines ordinal (said ∷ rest) = lineOf ordinal said ++ lines (suc ordinal) rest
 -- what holds after k records
 pub record Made (script : List ℕ) (k : ℕ) : Type 0 where
   pub network : after script k .state ≡ history (scriptCalls script k) .state
-  -- "T all messages ever posted"
+  -- R9.8: T counts what these calls post
   pub posts : after script k .posted ≡ posted empty (scriptCalls script k)
   -- the ring, as of any list of calls
   pub sound : Sound (history (scriptCalls script k))
@@ -68,7 +69,7 @@ pub record Made (script : List ℕ) (k : ℕ) : Type 0 where
   pub printed : after script k .text ≡ heading ++ lines 1 (answersOf script k)
   -- none of them is 6: every network of a script is well formed
   pub never-6 : ¬ List·Memᴰ (no (plain 6)) (answersOf script k)
-  -- nor 31, "met only on a floor that no script makes", whoever is asked for
+  -- nor 31, whoever is asked for (R10.10)
   pub never-31 : ¬ List·Memᴰ (no (plain 31)) (answersOf script k)
   pub found : (start serial : ℕ) → ¬ (ownerOf (after script k .state) start serial ≡ no (plain 31))
 

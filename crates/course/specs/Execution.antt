@@ -1,5 +1,5 @@
--- What a record of a script does to a network, over lists: its refusals in paper 01's order, and else what its call, its question or its
--- drain comes to, by the rules of the crate `protocol`. Definitions only.
+-- What a record of a script does to a network, over lists: its refusals in their order (R9.6), and else what its call, its
+-- question or its drain comes to, by the rules of the crate `protocol`. Definitions only.
 use Prim.Native.Nat.{ℕ}
 use mathlib.Core.Bool.{true, not}
 use mathlib.Core.List.{List, [], _∷_}
@@ -16,12 +16,12 @@ use Rattle.script.specs.declared.Record.{Record}
 use Rattle.script.specs.declared.Record.the-variants.{Call, Declare, Owner, Drain}
 
 -- ---- the refusals of the fields that the calls themselves do not see
--- 3 and 4 of a serial, as it says at its turn
+-- refusals 3 and 4 of a serial, as it says at its turn
 abbrev pub unread : Coded ℕ → List Rule
 unread (done d) = []
 unread (no r) = rule r true ∷ []
 
--- "3 to 5 field by field": an owner's start comes before its serial
+-- R9.6: field by field, so that an owner's start comes before its serial
 abbrev pub fieldRules : State → Record → List Rule
 fieldRules s (Call call) = []
 fieldRules s (Declare serial) = unread (coded serial)
@@ -34,7 +34,7 @@ abbrev pub valueOf : Coded ℕ → ℕ
 valueOf (done d) = d
 valueOf (no r) = 0
 
--- a question changes nothing and posts nothing
+-- R7.3: a question changes nothing and posts nothing
 abbrev pub saying : State → Coded Reply → Result
 saying s said = record { state = s; posts = []; said = said }
 
@@ -44,6 +44,6 @@ executing s (Declare serial) = applyOf s (Order (DeclareOrder (valueOf (coded se
 executing s (Owner start serial) = saying s (ownerOf s start (valueOf (coded serial)))
 executing s (Drain budget) = drainOf s budget
 
--- "Order: .. 6; .. then 3 to 5 field by field; then state numbers rising", which are those of the calls
+-- R9.6: 6, the fields, and then what the call, the question or the drain refuses
 unfoldable pub executeOf : State → Record → Result
 executeOf s asked = ruled ((6 when not (wellFormed s)) ∷ fieldRules s asked) (refused s) (executing s asked)

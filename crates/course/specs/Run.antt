@@ -22,7 +22,8 @@ pub record Progress : Type 0 where
 abbrev pub start : Progress
 start = record { state = empty; at = 0; ordinal = 0; posted = 0; text = heading }
 
--- one more record, by what is read at the cursor; "Refusals 1 and 2 stop the reading; after others it goes on": nothing is read past the end
+-- one more record, by what is read at the cursor; R9.5: 1 and 2 end the reading, since nothing is read past the end, and
+-- after any other refusal it goes on
 abbrev pub advanced : List ℕ → Progress → Read → Progress
 advanced script p end = p
 advanced script p (stop r) = record { state = p .state; at = length script; ordinal = p .ordinal + 1; posted = p .posted; text = p .text ++ lineOf (p .ordinal + 1) (no r) }
@@ -42,15 +43,15 @@ abbrev pub after : List ℕ → ℕ → Progress
 after script zero = start
 after script (suc k) = stepOf script (after script k)
 
--- "Last: `end P posted T`, P messages waiting, T all messages ever posted."
+-- R9.8: the last line, with the messages that wait and all that were posted
 abbrev pub closed : Progress → List ℕ
 closed p = p .text ++ lastLine (length (p .state .messages)) (p .posted)
 
--- "A script is at most 65,536 bytes."
+-- R9.1: how long a script may be
 abbrev pub sizeLimit : ℕ
 sizeLimit = 65_536
 
--- "only `ring 1`, `0 no 7` and `end 0 posted 0` are printed"
+-- R9.1: the printout of one that is too long
 abbrev pub tooLong : List ℕ
 tooLong = (heading ++ lineOf 0 (no (plain 7))) ++ lastLine 0 0
 

@@ -1,5 +1,6 @@
-// What any call may come to, whatever its rules: a refusal, which changes nothing, or a new node or a node's step to be written down, with what is told
-// of it. Where an order looks, and whether what a step posts finds room, are here too. Each public function takes any values.
+// What any call may come to, whatever its rules: a refusal, which changes nothing, or a new node or a node's step to be written
+// down, with what is told of it. Where an order looks, and whether what a step posts finds room, are here too. Each public
+// function takes any values.
 ghost use mathlib.Core.Path.{_≡_};
 ghost use Prim.Native.Nat.{_+_, _-_};
 ghost use lib.ListN.{length};
@@ -143,7 +144,7 @@ pub fn delivering(place: u8, number: u8, step: Step) -> Decision
     }
 }
 
-// The record of a node just declared.
+// The record of a node just declared (R1.4).
 pub fn declared(key: u32) -> Node
     ensures { λ r. ⌜ r ≡ declaredOf key ⌝ }
 {

@@ -187,17 +187,17 @@ module _ (n : Network) (l : Lengths n) (h : wellFormed n ≡ true) where
       rw (lt-ltb (n .count) capacity room) (λ i. record { network = network i; posted = 0; said = done (Declared (number i) key) })
 
   -- ---- tests that say what the rules say decide the call
-  comes-to : (call : Call) (o : Option Reason) (accepted : Decided) → o ≡ first (rulesOf (live n) call)
+  as-ruled : (call : Call) (o : Option Reason) (accepted : Decided) → o ≡ first (rulesOf (live n) call)
       → (o ≡ none → outcome n accepted ≡ counted (inArrays (effectOf (live n) call))) → outcome n (unlessRefused o turnedAway accepted) ≡ counted (applyOf n call)
   unfolding applyOf applyToLists committed
-  comes-to call none accepted says carried = carried refl ∙ rw (h, sym says)
-  comes-to call (some r) accepted says carried = ap counted (sym (refused-here n l call r h (rw (sym says))))
+  as-ruled call none accepted says carried = carried refl ∙ rw (h, sym says)
+  as-ruled call (some r) accepted says carried = ap counted (sym (refused-here n l call r h (rw (sym says))))
 
   -- ---- each call
   decides-declare : (key : ℕ) → outcome n (decisionOn n (Order (Declare key))) ≡ counted (applyOf n (Order (Declare key)))
   unfolding decisionOn
   decides-declare key =
-      comes-to (Order (Declare key)) (first (declareTests key (n .count) (keyIsTakenIn n key))) (adding (n .count) key)
+      as-ruled (Order (Declare key)) (first (declareTests key (n .count) (keyIsTakenIn n key))) (adding (n .count) key)
       (rw lists-tested (λ i. cond (not (inRange key)) (some (plain 4)) (cond (not (ltb (sym (nodes-length n l h) i) capacity)) (some (plain 20)) (cond (taken-read key i) (some (plain 21)) none))))
       (λ clear. let (_, (room, _)) = cleared (declareTests key (n .count) (keyIsTakenIn n key)) clear in adds-outcome key (tested-below (n .count) capacity room))
 
@@ -205,7 +205,7 @@ module _ (n : Network) (l : Lengths n) (h : wellFormed n ≡ true) where
   unfolding decisionOn
   decides-create u =
       let found : Found = record { taken = false; standing = someStands n; notice = noticeWaitsIn n u } in
-      comes-to (Order (Create u)) (unless (ltb u (n .count)) (first (createTests found))) (stepping u (createOf u (nodeIn n u)))
+      as-ruled (Order (Create u)) (unless (ltb u (n .count)) (first (createTests found))) (stepping u (createOf u (nodeIn n u)))
       (unless-says (ltb u (n .count)) (first (createTests found)) (first (createRules (live n) u)) says absent)
       (λ clear.
       let here = ltb-true u (n .count) (unless-known (ltb u (n .count)) (first (createTests found)) clear .0) in
@@ -259,7 +259,7 @@ module _ (n : Network) (l : Lengths n) (h : wellFormed n ≡ true) where
     decides-join : outcome n (decisionOn n (Order (Join u p q))) ≡ counted (applyOf n (Order (Join u p q)))
     unfolding decisionOn
     decides-join =
-        comes-to (Order (Join u p q)) (unless all-known (afterStep (joined .said) (first rest))) (stepping u joined) join-tests
+        as-ruled (Order (Join u p q)) (unless all-known (afterStep (joined .said) (first rest))) (stepping u joined) join-tests
         (λ clear.
         let (all, after) = unless-known all-known (afterStep (joined .said) (first rest)) clear in
         let (here, left, right) = three all in
@@ -291,7 +291,7 @@ module _ (n : Network) (l : Lengths n) (h : wellFormed n ≡ true) where
     decides-leave : outcome n (decisionOn n (Order (Leave u))) ≡ counted (applyOf n (Order (Leave u)))
     unfolding decisionOn
     decides-leave =
-        comes-to (Order (Leave u)) (leaveTests u (n .count) (n .waiting) (nodeIn n u)) (stepping u left) leave-tests
+        as-ruled (Order (Leave u)) (leaveTests u (n .count) (n .waiting) (nodeIn n u)) (stepping u left) leave-tests
         (λ clear.
         let (t, after) = unless-known (ltb u (n .count)) (afterStep (left .said) (first (roomTests (n .waiting) (left .posts)))) clear in
         let here = ltb-true u (n .count) t in
@@ -330,7 +330,7 @@ module _ (n : Network) (l : Lengths n) (h : wellFormed n ≡ true) where
     decides-deliver : outcome n (decisionOn n (Deliver place)) ≡ counted (applyOf n (Deliver place))
     unfolding decisionOn
     decides-deliver =
-        comes-to (Deliver place) (first (deliverTests place arrival)) (delivering place (arrival .message .to) received) deliver-tests
+        as-ruled (Deliver place) (first (deliverTests place arrival)) (delivering place (arrival .message .to) received) deliver-tests
         (λ clear.
         let (waiting, (room, _)) = cleared (deliverTests place arrival) clear in
         let there = tested-below place (n .waiting) waiting in

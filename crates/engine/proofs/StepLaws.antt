@@ -1,5 +1,5 @@
 -- What the network's rules come to after a node's step. A step's own rules come first, and where they let it pass, what it posts is known:
--- so that the rule on room, read off the posts, is refusal 28 as paper 01 has it. Assumes nothing.
+-- so that the rule on room, read off the posts, is refusal 28 as R6.7 to R6.9 have it. Assumes nothing.
 use mathlib.Core.Path.{_≡_, refl, sym, ap, _∙_}
 use mathlib.Core.Logic.{⊎-elim}
 use mathlib.Core.Bool.{Bool, true, false, not, _&&_, cond, and-true}
@@ -77,7 +77,7 @@ full-by-one : (n : ℕ) → not (leb (n + 1) queueLimit) ≡ not (ltb n queueLim
 full-by-one n = let e : n + 1 ≡ suc n = omega arith in rw e
 
 -- ---- the rules after a step's own
--- rest is what paper 01 names, and what the code tests instead agrees with it where the step's own rules let it pass
+-- rest is what the rules name, and what the code tests instead agrees with it where the step's own rules let it pass
 after-own : (rules rest : List Rule) (u : Node) (accepted : Effect) (o : Outcome) (tested : Option Reason) → accepted .said ≡ done o
     → (first rules ≡ none → tested ≡ first rest) → afterStep (ruled rules (refused u) accepted .said) tested ≡ first (rules ++ rest)
 after-own rules rest u accepted o tested says agrees = go (first rules) refl ∙ sym (first-append rules rest)
@@ -137,7 +137,7 @@ module _ (s : State) (w : WellFormed s) where
       (after-own (joinRules u (nodeAt s u) (peerAt s p) (peerAt s q)) ((25 when noticeWaits s u) ∷ (28 when isFull s) ∷ []) (nodeAt s u) (asking u (nodeAt s u) (peerAt s p) (peerAt s q)) Waiting _ refl
       (λ clear. rw (joined-posts u (nodeAt s u) (peerAt s p) (peerAt s q) clear, full-by-one (length (s .messages)))))
 
-  -- 28 of "a leave that posts"
+  -- R6.8: 28 of a leave that posts
   pub leave-says : (u : ℕ) → declared s u ≡ true
       → afterStep (leaveOf u (nodeAt s u) .said) (first (roomTests (length (s .messages)) (leaveOf u (nodeAt s u) .posts))) ≡ first (leaveCallRules s u)
   unfolding leaveOf
@@ -157,7 +157,7 @@ module _ (s : State) (w : WellFormed s) where
           → first (roomTests (length (s .messages)) (leaveOf u (nodeAt s u) .posts)) ≡ first ((28 when isFull s && not (alone u (nodeAt s u))) ∷ [])
       by-request clear e = rw (left-posts u (nodeAt s u) clear e, full-by-one (length (s .messages)), e, and-true)
 
-  -- 28 of "the delivery of a SetR that would be granted"
+  -- R6.9: 28 of the delivery of a SetR that would be granted
   pub deliver-says : (place : ℕ) → place < length (s .messages)
       → first (roomTests (length (s .messages) - 1) (receiving s (messageAt s place) .posts)) ≡ first (deliverRules s place)
   deliver-says place waits = ⊎-elim grantable other (decided (isGrantable s place))

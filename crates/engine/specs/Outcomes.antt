@@ -1,5 +1,6 @@
--- What a call or a drain on a network in arrays comes to: 6 where it is not well formed, and else what the rules of the crate `protocol`
--- make of the lists that the arrays hold, in arrays again. The rules are not written a second time. Definitions only.
+-- What a call or a drain on a network in arrays comes to: 6 where it is not well formed, and else what the rules of the crate
+-- `protocol` make of the lists that the arrays hold, in arrays again. The rules are not written a second time. Definitions
+-- only.
 use Prim.Native.Nat.{ℕ}
 use mathlib.Core.Bool.{cond}
 use mathlib.Core.List.{List, [], _∷_}
@@ -23,7 +24,7 @@ pub record Applied : Type 0 where
   pub posts : List Message
   pub said : Coded Reply
 
--- "It carries only its number; bench or floor come back equal, nothing is posted."
+-- R6.2: a refusal says its reason; the network is as it was, and nothing is posted
 abbrev pub refused : Network → Reason → Applied
 refused n r = record { network = n; posts = []; said = no r }
 
@@ -31,10 +32,11 @@ refused n r = record { network = n; posts = []; said = no r }
 abbrev pub inArrays : Result → Applied
 inArrays r = record { network = held (r .state); posts = r .posts; said = r .said }
 
--- "6 a .. floor handed in is out of shape": the first refusal of every call; and else what the rules make of the lists
+-- R6.3: 6 is the first refusal of every call; and else what the rules make of the lists
 unfoldable pub applyOf : Network → Call → Applied
 applyOf n call = cond (wellFormed n) (inArrays (applyToLists (live n) call)) (refused n (plain 6))
 
+-- R8.3: and of a drain
 unfoldable pub drainOf : Network → ℕ → Applied
 drainOf n budget = cond (wellFormed n) (inArrays (drainLists (live n) budget)) (refused n (plain 6))
 
@@ -54,7 +56,7 @@ reported n r = record { network = n; posted = r .posted; said = answered (r .ans
 abbrev pub called : Called → Counted
 called c = reported (c .network) (c .report)
 
--- "a refused one stays in the list, and the next call gets the floor it handed back"
+-- R10.1: a refused call stays in the list, and the next one gets the network that it handed back
 abbrev pub run : Network → List Call → Network
 run n [] = n
 run n (call ∷ calls) = run (applyOf n call .network) calls

@@ -1,4 +1,4 @@
-// A drain of any network, by value and where it lies.
+// A drain of any network (docs/RULES.md, section 8), by value and where it lies.
 ghost use mathlib.Core.Path.{_≡_};
 ghost use Rattle.engine.specs.Outcomes.{called, reported, counted, drainOf};
 use crate::Called;

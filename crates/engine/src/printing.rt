@@ -15,7 +15,7 @@ use crate::in_place;
 use network::Network;
 use progress::Progress;
 
-// "A script is at most 65,536 bytes."
+// R9.1: how long a script may be.
 pub const SIZE_LIMIT: usize = 65_536;
 
 // What a run keeps from record to record.

@@ -55,7 +55,7 @@ all-but a u = (λ h e. not-start a a (rw e at h), λ n. go (order u a) n)
     go (same h) n = absurd (n h)
     go (more h) n = above (omega arith) h
 
--- "So [a, a) is every key."
+-- R3.2: [a, a) has all keys
 pub within-self : (a u : ℕ) → Within a a u
 within-self a u = go (order u a)
   where
@@ -167,7 +167,7 @@ module _ (a u b w : ℕ) where
       at-a e s = ⊎-elim (λ (d : w ≡ u). not-start a b (rw (sym d ∙ e) at hu)) (λ j. behind (ℕ-discrete a b) (rw e at j)) s
 
 -- ---- the tests say the facts
--- each of the paper's three clauses, as a test and as facts
+-- each of the three clauses of R3.1, as a test and as facts
 module _ (a b u : ℕ) where
   straight : T (ltb a b && (ltb a u && ltb u b)) ↔ ((a < u) × (u < b))
   straight = (

@@ -1,4 +1,4 @@
-// Intervals of the circular key space (004, section III; paper 01, "Between").
+// Intervals on the circle of keys (docs/RULES.md, section 3).
 ghost use mathlib.Core.Path.{_≡_};
 ghost use Rattle.interval.specs.Interval.{between, within};
 

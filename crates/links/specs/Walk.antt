@@ -1,5 +1,5 @@
--- The words of the theorem on the ring: a walk along right links, and what it means that a walk goes once round the members. A node is
--- a number; `key` gives its key and `right` its right link. Definitions only.
+-- The words of the theorem on the ring: a walk along right links, and what it means that a walk goes once round the members.
+-- A node is a number; `key` gives its key and `right` its right link. Definitions only.
 use mathlib.Core.Path.{_≡_}
 use mathlib.Core.List.{List, [], _∷_}
 use Prim.Native.Nat.{ℕ, zero, suc}
@@ -38,7 +38,7 @@ abbrev pub falls : (ℕ → ℕ) → (ℕ → Link) → List ℕ → ℕ
 falls key right l = count (λ x. leb (key (move right x)) (key x)) l
 
 -- ---- the ring
--- the walk from s goes once round the members, ascending but for one move
+-- R10.5, R10.6: the walk from s goes once round the members, ascending but for one move
 pub record Circuit (key : ℕ → ℕ) (right : ℕ → Link) (Member : ℕ → Type 0) (s : ℕ) : Type 0 where
   -- how many moves the round takes
   pub moves : ℕ
@@ -55,7 +55,7 @@ pub record Circuit (key : ℕ → ℕ) (right : ℕ → Link) (Member : ℕ → 
   -- a member alone has a right link to itself
   pub lone : ((m : ℕ) → Member m → m ≡ s) → right s ≡ To s
 
--- the one member whose right link leads to q
+-- R10.7: the one member whose right link leads to q
 pub record Predecessor (right : ℕ → Link) (Member : ℕ → Type 0) (q : ℕ) : Type 0 where
   pub node : ℕ
   pub member : Member node

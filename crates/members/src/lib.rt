@@ -1,6 +1,6 @@
-// Who is inserted, for every network: a node's status says it, or leaves it to the messages that wait. A number past an array counts from its
-// beginning again, and counts past the arrays are cut. What this comes to on a well-formed network's lists is proved in `proofs/`; whether a network
-// is well formed is tested in a crate above.
+// Who is inserted (R4.1, R4.2), for every network: a node's status says it, or leaves it to the messages that wait. A number
+// past an array counts from its beginning again, and counts past the arrays are cut. What this comes to on a well-formed
+// network's lists is proved in `proofs/`; whether a network is well formed is tested in a crate above.
 ghost use mathlib.Core.Path.{_≡_};
 ghost use Prim.Native.Nat.{_≤_};
 ghost use lib.ListN.{take};

@@ -1,5 +1,5 @@
--- A network in fixed arrays (paper 01: a "floor"): which lists its arrays hold, when it is well formed ("in shape"), and the arrays that hold
--- given lists. What is asked of the lists is well-formedness as the crate `protocol` has it. Definitions only.
+-- A network in fixed arrays: which lists its arrays hold, when it is well formed, and the arrays that hold given lists. What
+-- is asked of the lists is well-formedness as the crate `protocol` has it. Definitions only.
 use Prim.Native.Nat.{ℕ, _-_}
 use mathlib.Core.Bool.{Bool, not, _&&_}
 use mathlib.Core.List.{List, _++_}
@@ -15,8 +15,8 @@ use Rattle.node.specs.Actions.{setRNak}
 use Rattle.protocol.specs.State.{State, queueLimit, empty as emptyLists, wellFormed as listsAreWellFormed}
 use Rattle.network.specs.declared.Network.{Network}
 
--- ---- "one fixed blank": of the nodes, and of the messages
--- as a node is declared, "out, no links, left number 0, no right number", and the key 0
+-- ---- R2.2: what a vacant place holds (paper 01: the blank)
+-- a node as it begins (R1.4), with the key 0
 abbrev pub vacantNode : Node
 vacantNode = declaredOf 0
 
@@ -37,11 +37,11 @@ abbrev pub isVacantMessage : Message → Bool
 isVacantMessage m = eqb (m .sender) 0 && (eqb (m .to) 0 && isNak (m .kind))
 
 -- ---- the lists that the arrays hold
--- "up to 32 benches, numbered from 0 as declared, .. and up to 64 messages on the way, at places from 0": those before the counts
+-- R1.7: the nodes and the messages before the counts
 abbrev pub live : Network → State
 live n = record { nodes = take (n .count) (n .nodes); messages = take (n .waiting) (n .messages) }
 
--- "counts are within limits; places past the counts hold one fixed blank", and the rest of the sentence is said of the lists
+-- R2.1, the counts; R2.2, the places past them; the other clauses are said of the lists
 unfoldable pub wellFormed : Network → Bool
 wellFormed n =
     (leb (n .count) capacity && leb (n .waiting) queueLimit)
@@ -53,7 +53,7 @@ wellFormed n =
 abbrev pub filled : {A : Type 0} → ℕ → A → List A → List A
 filled n blank l = l ++ replicate (n - length l) blank
 
--- "Benches and messages are held as fixed arrays inside the floor."
+-- R1.7: 32 places for nodes and 64 for messages
 abbrev pub held : State → Network
 held s = record {
   nodes = filled capacity vacantNode (s .nodes);
@@ -62,6 +62,6 @@ held s = record {
   waiting = length (s .messages);
 }
 
--- "A cleared floor has neither."
+-- R1.8: no nodes, and no messages
 abbrev pub empty : Network
 empty = held emptyLists

@@ -1,5 +1,5 @@
--- No rules stand here: it is what the walks of the well-formedness test compute, a test of every place of an array, and whose exchange a
--- message is. That they come to the clauses of well-formedness is proved in `proofs/`. Definitions only.
+-- No rules stand here: it is what the walks of the well-formedness test compute, a test of every place of an array, and whose
+-- exchange a message is. That they come to the clauses of well-formedness is proved in `proofs/`. Definitions only.
 use Prim.Native.Nat.{ℕ}
 use mathlib.Core.List.{List}
 use mathlib.Core.Bool.{Bool, cond}
@@ -19,7 +19,7 @@ placeFits fits vacant blank l n i = cond (ltb i n) (fits (getD l i blank)) (vaca
 abbrev pub everyPlace : {A : Type 0} → (A → Bool) → (A → Bool) → A → List A → ℕ → Bool
 everyPlace fits vacant blank l n = everyBelow (length l) (placeFits fits vacant blank l n)
 
--- whose exchange a message is, "SetR from it or answer to it"
+-- whose exchange a message is: the sender's of a request, the addressee's of an answer
 abbrev pub partyBy : Kind → Message → Link
 partyBy (SetR new expected number) m = To (m .sender)
 partyBy (SetRAck number) m = To (m .to)

@@ -1,5 +1,5 @@
-// A network (paper 01's floor) in fixed arrays: its nodes and its waiting messages, and whether it is well formed. `specs/` says which
-// lists the arrays hold; the calls on a network, and the questions it is asked, stand in crates above.
+// A network (paper 01: a floor) in fixed arrays: its nodes and its waiting messages, and whether it is well formed. `specs/`
+// says which lists the arrays hold; the calls on a network, and the questions it is asked, stand in crates above.
 ghost use mathlib.Core.Path.{_≡_};
 ghost use Rattle.network.specs.Arrays.{empty};
 use node::Node;
@@ -11,7 +11,7 @@ use parts::Status;
 
 mod shape;
 
-// "up to 32 benches", "up to 64 messages on the way".
+// R1.7: how many nodes and how many messages there may be.
 pub const CAPACITY: u8 = 32;
 
 pub const QUEUE_LIMIT: u8 = 64;
@@ -24,8 +24,8 @@ pub struct Network {
     pub waiting: u8,
 }
 
-// "one fixed blank" in every place: of the nodes, as a node is declared with the key 0, and of the messages. Constants, so that an empty network
-// is copied and not made place by place.
+// R2.2: what a vacant place holds, of the nodes and of the messages. Constants, so that an empty network is copied and not
+// made place by place.
 const VACANT_NODE: Node = Node {
     status: Status::Out,
     key: 0,

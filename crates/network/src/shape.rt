@@ -1,4 +1,4 @@
-// Well-formedness of a network: the clauses of paper 01's "in shape", each by one walk over an array.
+// Well-formedness of a network (docs/RULES.md, section 2): its clauses, each by one walk over an array.
 ghost use mathlib.Core.Path.{_≡_};
 ghost use mathlib.Core.Bool.{true, not, cond};
 ghost use Prim.Native.Nat.{ℕ, _<_, _≤_};

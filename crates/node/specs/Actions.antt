@@ -1,5 +1,5 @@
--- What one node does with an order or a message: "The actions (004 Fig. 1)" of paper 01, in its order, each with its refusals before
--- it. Every definition fixes the whole node, every message and the outcome. Definitions only.
+-- What one node does with an order or a message (docs/RULES.md, section 5), in the order of the rules, each with its
+-- refusals (R6.4) before it. Every definition fixes the whole node, every message and the outcome. Definitions only.
 use Prim.Native.Nat.{ℕ}
 use mathlib.Core.Bool.{Bool, false, not, _&&_, _||_, cond}
 use mathlib.Core.List.{List, [], _∷_}
@@ -29,12 +29,13 @@ use Rattle.parts.specs.Posts.{posted}
 use Rattle.node.specs.Shape.{wellFormed, deliverable, peerFits}
 
 -- ---- what a step says
--- the node left behind, the messages posted in their order, and the outcome or the reason of a refusal
+-- R1.9: the node left behind, the messages posted in their order, and the outcome or the reason of a refusal
 pub record Effect : Type 0 where
   pub node : Node
   pub posts : List Message
   pub said : Coded Outcome
 
+-- R11.3: what the code's verdict says
 abbrev pub coded : Verdict → Coded Outcome
 coded (Done o) = done o
 coded (Refused r) = no (reason r)
@@ -43,7 +44,7 @@ coded (Refused r) = no (reason r)
 abbrev pub effect : Step → Effect
 effect s = record { node = s .node; posts = posted (s .posts); said = coded (s .verdict) }
 
--- a refusal "carries only its number; bench or floor come back equal, nothing is posted"
+-- R6.2: a refusal says its reason; the node is as it was, and nothing is posted
 abbrev pub refused : Node → Reason → Effect
 refused u r = record { node = u; posts = []; said = no r }
 
@@ -69,7 +70,7 @@ abbrev pub setL : ℕ → ℕ → ℕ → Number → Message
 setL sender to left number = record { sender = sender; to = to; kind = SetL left number }
 
 -- ---- a node changed: one setter for its status and one for each link with its number, which leave all other fields as they were
--- "A bench that goes out retains its fields": so do all changes of status
+-- R1.5: a change of status leaves the other fields
 abbrev pub withStatus : Status → Node → Node
 withStatus s u = record { status = s; key = u .key; left = u .left; right = u .right; lseq = u .lseq; rseq = u .rseq }
 
@@ -79,11 +80,12 @@ withLeft l n u = record { status = u .status; key = u .key; left = l; right = u 
 abbrev pub withRight : Link → Seq → Node → Node
 withRight l n u = record { status = u .status; key = u .key; left = u .left; right = l; lseq = u .lseq; rseq = n }
 
--- ---- "Create u: links to itself, both numbers 0, status in."
--- "its create answers 23 unless out"
+-- ---- create
+-- R6.4: 6, and 23 of a node that is not out
 abbrev pub createRules : ℕ → Node → List Rule
 createRules me u = (6 when not (wellFormed me u)) ∷ (23 when not (isOut (u .status))) ∷ []
 
+-- R5.1: linked to itself, both numbers the first, in
 abbrev pub created : ℕ → Node → Node
 created me u = withStatus In (withRight (To me) (Is firstSeq) (withLeft (To me) firstSeq u))
 
@@ -93,17 +95,19 @@ creating me u = quiet (created me u) Created
 unfoldable pub createOf : ℕ → Node → Effect
 createOf me u = ruled (createRules me u) (refused u) (creating me u)
 
--- ---- "Join u between p and q: left p, right q, status ins; SetR(u, q, left number of u) to p."
--- 23 "join: bench not out", 24 "join: key not in (left, right)"
+-- ---- join
+-- R6.4: 23 of a node that is not out, 24 of a key that is not between
 abbrev pub joinOwnRules : Node → Peer → Peer → List Rule
 joinOwnRules u p q = (23 when not (isOut (u .status))) ∷ (24 when not (between (p .key) (q .key) (u .key))) ∷ []
 
 abbrev pub joinRules : ℕ → Node → Peer → Peer → List Rule
 joinRules me u p q = (6 when not (wellFormed me u && (peerFits p && peerFits q))) ∷ joinOwnRules u p q
 
+-- R5.2: between p and q, ins
 abbrev pub joining : Node → Peer → Peer → Node
 joining u p q = withStatus Ins (withRight (To (q .number)) (u .rseq) (withLeft (To (p .number)) (u .lseq) u))
 
+-- R5.2: p is asked to take u for q, with the left number that u has
 abbrev pub joinRequest : ℕ → Node → Peer → Peer → Message
 joinRequest me u p q = setR me (p .number) me (q .number) (u .lseq)
 
@@ -117,20 +121,23 @@ joinUnchecked me u p q = ruled (joinOwnRules u p q) (refused u) (asking me u p q
 unfoldable pub joinOf : ℕ → Node → Peer → Peer → Effect
 joinOf me u p q = ruled (joinRules me u p q) (refused u) (asking me u p q)
 
--- ---- "Leave u: if u's right link is u, out with no message. Else del, and SetR(right, u, right number + 1) to its left link."
+-- ---- leave
+-- R5.3: a node is alone if its right link names itself
 abbrev pub alone : ℕ → Node → Bool
 alone me u = linksTo (u .right) me
 
--- 26 "leave: bench not in", 27 "leave: right number 65,535 and not alone"
+-- R6.4: 26 of a node that is not in, 27 of one whose right number is the last, unless it is alone
 abbrev pub leaveOwnRules : ℕ → Node → List Rule
 leaveOwnRules me u = (26 when not (isIn (u .status))) ∷ (27 when not (alone me u) && not (hasNext (seqOf (u .rseq)))) ∷ []
 
 abbrev pub leaveRules : ℕ → Node → List Rule
 leaveRules me u = (6 when not (wellFormed me u)) ∷ leaveOwnRules me u
 
+-- R5.4: its left link is asked to take its right link for it
 abbrev pub leaveRequest : ℕ → Node → Number → Message
 leaveRequest me u next = setR me (target (u .left)) (target (u .right)) me next
 
+-- R5.3: alone it goes out with no message; R5.4: else it is del, and asks
 abbrev pub leaving : ℕ → Node → Effect
 leaving me u =
     cond (alone me u)
@@ -144,67 +151,73 @@ leaveUnchecked me u = ruled (leaveOwnRules me u) (refused u) (leaving me u)
 unfoldable pub leaveOf : ℕ → Node → Effect
 leaveOf me u = ruled (leaveRules me u) (refused u) (leaving me u)
 
--- ---- "SetR from v at p."
--- "Granted when p is in, its right link equals expected, and, where new = v, its right number is below 65,535."
+-- ---- SetR from v at p
+-- R5.5: granted if p is in and its right link the one expected, and of a join if its right number has a next
 unfoldable pub grants : Node → ℕ → ℕ → ℕ → Bool
 grants p v new expected = isIn (p .status) && (linksTo (p .right) expected && (not (eqb new v) || hasNext (seqOf (p .rseq))))
 
--- "a SetR that would be granted"
+-- R6.10: whether a message is a SetR that would be granted
 abbrev pub wouldGrant : Node → ℕ → Kind → Bool
 wouldGrant p v (SetR new expected number) = grants p v new expected
 wouldGrant p v (SetRAck number) = false
 wouldGrant p v SetRNak = false
 wouldGrant p v (SetL left number) = false
 
--- "If new = v (a join) post SetL(v, right number + 1) to the old right link; else post SetL(p, number) to new."
+-- R5.6: of a join the old right link is told of v, with the next number; of a leave new is told of p, with the request's number
 abbrev pub notice : ℕ → Node → ℕ → ℕ → Number → Message
 notice me p v new number =
     cond (eqb new v)
     (setL me (target (p .right)) v (nextSeq (seqOf (p .rseq))))
     (setL me new me number)
 
--- "Then post SetRAck(right number + 1) to v, capped at 65,535"
+-- R5.7: the number after the right number that p has until then, capped
 abbrev pub ack : ℕ → Node → ℕ → Message
 ack me p v = setRAck me v (cappedNext (seqOf (p .rseq)))
 
--- "Then right link := new, right number := number."
+-- R5.8: the right link is new, and the right number the request's
 abbrev pub relinked : Node → ℕ → Number → Node
 relinked p new number = withRight (To new) (Is number) p
 
 abbrev pub granting : Node → Message → Message → Effect
 granting p notice answer = record { node = p; posts = notice ∷ answer ∷ []; said = done Granted }
 
--- "Not granted: post SetRNak to v."
+-- R5.9: p is as it was, and v hears SetRNak
 abbrev pub denied : ℕ → Node → ℕ → Effect
 denied me p v = posting p (setRNak me v) Denied
 
+-- R5.5 to R5.9
 abbrev pub onSetR : ℕ → Node → ℕ → ℕ → ℕ → Number → Effect
 onSetR me p v new expected number =
     cond (grants p v new expected)
     (granting (relinked p new number) (notice me p v new number) (ack me p v))
     (denied me p v)
 
--- ---- "SetRAck at ins: in, right number := its number. At del: out." "Answers at a bench that is in are dropped too."
+-- ---- SetRAck
+-- R5.10: a joiner is in, with the number of the answer
 abbrev pub confirmed : Node → Number → Node
 confirmed u number = withStatus In (withRight (u .right) (Is number) u)
 
+-- R5.10: a joiner has joined, a leaver is gone; R5.13, R5.14: the others drop it
 abbrev pub onSetRAck : Status → Node → Number → Effect
 onSetRAck Out u number = quiet u Dropped
 onSetRAck Ins u number = quiet (confirmed u number) Joined
 onSetRAck In u number = quiet u Dropped
 onSetRAck Del u number = quiet (withStatus Out u) Gone
 
--- ---- "SetRNak at ins: out. At del: in."
+-- ---- SetRNak
+-- R5.11: a joiner stays out, a leaver stays in; R5.13, R5.14: the others drop it
 abbrev pub onSetRNak : Status → Node → Effect
 onSetRNak Out u = quiet u Dropped
 onSetRNak Ins u = quiet (withStatus Out u) JoinDenied
 onSetRNak In u = quiet u Dropped
 onSetRNak Del u = quiet (withStatus In u) LeaveDenied
 
--- ---- "SetL: if its number is greater than the left number, take both; else nothing."
+-- ---- SetL
+-- R5.12: left link and left number are set
 abbrev pub leftSet : Node → ℕ → Number → Node
 leftSet u left number = withLeft (To left) number u
 
+-- R5.12: if its number is newer than the left number, and else it changes nothing
 abbrev pub onSetL : Node → ℕ → Number → Effect
 onSetL u left number = cond (newer number (u .lseq)) (quiet (leftSet u left number) LeftSet) (quiet u LeftOld)
 
@@ -215,10 +228,11 @@ onKind me u v (SetRAck number) = onSetRAck (u .status) u number
 onKind me u v SetRNak = onSetRNak (u .status) u
 onKind me u v (SetL left number) = onSetL u left number
 
--- "A bench that is out drops every message"
+-- R5.13: a node that is out drops a message of any kind
 abbrev pub actOf : ℕ → Node → ℕ → Kind → Effect
 actOf me u v kind = cond (isOut (u .status)) (quiet u Dropped) (onKind me u v kind)
 
+-- R6.4: a message is refused 6, and by nothing else
 abbrev pub receiveRules : ℕ → Node → Message → List Rule
 receiveRules me u m = (6 when not (wellFormed me u && deliverable me m)) ∷ []
 

@@ -1,5 +1,5 @@
--- The record of a node just declared, and when a node, a message or a neighbour handed in to a single step is well formed (paper 01: "in
--- shape"). Refusal 6 is given exactly where it is not. Definitions only.
+-- The record of a node just declared, and when a node, a message or a neighbour handed in to a single step is well formed
+-- (paper 01: in shape). Refusal 6 is given exactly where it is not. Definitions only.
 use Prim.Native.Nat.{ℕ}
 use mathlib.Core.Bool.{Bool, _&&_}
 use lib.Dec.{ltb, eqb}
@@ -13,25 +13,27 @@ use Rattle.node.specs.declared.Peer.{Peer}
 use Rattle.sequence.specs.Sequence.{firstSeq}
 use Rattle.parts.specs.Shape.{linksFit, messageFits}
 
--- "At first: out, no links, left number 0, no right number."
+-- R1.4: how a node begins
 abbrev pub declaredOf : ℕ → Node
 declaredOf key = record { status = Out; key = key; left = Unlinked; right = Unlinked; lseq = firstSeq; rseq = Unset }
 
 -- ---- well-formedness among the first `count` nodes
--- "keys .. are in range", and its links and its right number
+-- R2.3 to R2.5: its key, its links and its right number
 unfoldable pub nodeFits : ℕ → Node → Bool
 nodeFits count u = inRange (u .key) && linksFit count (u .status) (u .left) (u .right) (u .rseq)
 
--- ---- what is handed in to a single step, which knows no count but the limit: "up to 32 benches, numbered from 0"
+-- ---- R2.9: what is handed in to a single step, which knows no count but the limit (R1.7)
 abbrev pub capacity : ℕ
 capacity = 32
 
+-- R2.9: the node, with its own number
 unfoldable pub wellFormed : ℕ → Node → Bool
 wellFormed me u = ltb me capacity && nodeFits capacity u
 
--- a message must be for this node
+-- R2.9: a message, which must be for this node
 unfoldable pub deliverable : ℕ → Message → Bool
 deliverable me m = eqb (m .to) me && messageFits capacity m
 
+-- R2.9: a neighbour
 unfoldable pub peerFits : Peer → Bool
 peerFits p = ltb (p .number) capacity && inRange (p .key)

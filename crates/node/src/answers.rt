@@ -1,4 +1,4 @@
-// SetRAck and SetRNak: the answers to a request.
+// SetRAck (R5.10) and SetRNak (R5.11): the answers to a request.
 ghost use mathlib.Core.Path.{_≡_};
 ghost use Rattle.node.specs.Actions.{effect, onSetRAck, onSetRNak};
 use crate::Node;

@@ -1,4 +1,4 @@
-// Create: the first node of a ring.
+// Create (R5.1): the first node of a ring.
 ghost use mathlib.Core.Path.{_≡_};
 ghost use Rattle.node.specs.Actions.{effect, createOf};
 use crate::Node;

@@ -1,4 +1,4 @@
-// Join: a node asks the node on its left to let it in.
+// Join (R5.2): a node asks the node on its left to let it in.
 ghost use mathlib.Core.Path.{_≡_};
 ghost use Rattle.node.specs.Actions.{effect, joinUnchecked, joinOf};
 use crate::Node;

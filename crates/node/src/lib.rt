@@ -1,6 +1,6 @@
-// One node of the ring (paper 01's bench): its record, and what it does with an order or a message. Its parts and its messages are
-// those of the crate `parts`. Each action takes the node by value, with the node's own number, and hands back the node, at most two
-// messages and a verdict.
+// One node of the ring (paper 01: a bench): its record, and what it does with an order or a message (docs/RULES.md, section 5).
+// Its parts and its messages are those of the crate `parts`. Each action takes the node by value, with the node's own number,
+// and hands back the node, at most two messages and a verdict (R1.9).
 use parts::Link;
 use parts::Posts;
 use parts::Seq;
@@ -18,6 +18,7 @@ mod set_r;
 mod shape;
 mod steps;
 
+// R1.3.
 pub struct Node {
     pub key: u32,
     pub left: Link,
@@ -33,7 +34,7 @@ pub struct Peer {
     pub key: u32,
 }
 
-// What a step did, where it was not refused: the words of paper 01's printout.
+// What a step did, where it was not refused: the outcomes of section 5.
 pub enum Outcome {
     Created,
     Waiting,

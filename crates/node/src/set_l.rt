@@ -1,4 +1,4 @@
-// SetL: a notice of a new left link.
+// SetL (R5.12): a notice of a new left link.
 ghost use mathlib.Core.Path.{_≡_};
 ghost use Rattle.node.specs.Actions.{effect, onSetL};
 use crate::Node;

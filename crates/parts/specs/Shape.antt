@@ -1,4 +1,5 @@
--- When a link, the links of a node, or a message are well formed among the first `count` nodes (paper 01: "in shape"). Definitions only.
+-- When a link, the links of a node, or a message are well formed among the first `count` nodes (paper 01: in shape).
+-- Definitions only.
 use Prim.Native.Nat.{ℕ}
 use mathlib.Core.Bool.{Bool, true, not, _&&_, _||_}
 use lib.Dec.{ltb}
@@ -11,13 +12,12 @@ use Rattle.parts.specs.declared.Kind.the-variants.{SetR, SetRAck, SetRNa
 use Rattle.parts.specs.declared.Message.{Message}
 use Rattle.parts.specs.Tests.{isOut, isInOrDel, linked, numbered}
 
--- a link that is there names one of the first `count` nodes
+-- R2.4: a link that is there names one of the first `count` nodes
 abbrev pub linkFits : ℕ → Link → Bool
 linkFits count Unlinked = true
 linkFits count (To n) = ltb n count
 
--- the links and the right number of a node: "bench numbers in links .. are declared; .. a bench not out has both links; a bench in or del has
--- a right number"
+-- R2.4, R2.5: the links of a node are declared, and there unless it is out; its right number is there while it is in or del
 abbrev pub linksFit : ℕ → Status → Link → Link → Seq → Bool
 linksFit count status left right rseq =
     (linkFits count left && linkFits count right)
@@ -29,6 +29,6 @@ kindFits count (SetRAck number) = true
 kindFits count SetRNak = true
 kindFits count (SetL left number) = ltb left count
 
--- "bench numbers in .. messages are declared"
+-- R2.4: all that a message names is declared
 unfoldable pub messageFits : ℕ → Message → Bool
 messageFits count m = ltb (m .sender) count && (ltb (m .to) count && kindFits count (m .kind))

@@ -26,7 +26,7 @@ isIn Ins = false
 isIn In = true
 isIn Del = false
 
--- "a bench in or del"
+-- R2.5: of such a node a right number is asked
 abbrev pub isInOrDel : Status → Bool
 isInOrDel Out = false
 isInOrDel Ins = false
@@ -58,7 +58,7 @@ seqOf Unset = firstSeq
 seqOf (Is n) = n
 
 -- ---- a kind of message
--- "A request is a SetR, of a joiner or a leaver"
+-- R1.6: a request is a SetR
 abbrev pub isRequest : Kind → Bool
 isRequest (SetR new expected number) = true
 isRequest (SetRAck number) = false
@@ -77,17 +77,18 @@ isNak (SetRAck number) = false
 isNak SetRNak = true
 isNak (SetL left number) = false
 
+-- R1.6: a notice is a SetL
 abbrev pub isNotice : Kind → Bool
 isNotice (SetR new expected number) = false
 isNotice (SetRAck number) = false
 isNotice SetRNak = false
 isNotice (SetL left number) = true
 
--- "answers SetRAck(number) and SetRNak"
+-- R1.6: an answer is a SetRAck or a SetRNak
 abbrev pub isAnswer : Kind → Bool
 isAnswer kind = isAck kind || isNak kind
 
--- ---- "numbers are at most 65,535": of a right number, and of the number that a message carries
+-- ---- R2.7: of a right number, and of the number that a message carries
 abbrev pub seqFits : Seq → Bool
 seqFits Unset = true
 seqFits (Is n) = isSeq n

@@ -1,5 +1,5 @@
--- No rules stand here: it is what the code leaves when a record is done with, for every progress, report and text. That this is a step of paper 01's
--- run is proved in the crate `engine`. Definitions only.
+-- No rules stand here: it is what the code leaves when a record is done with, for every progress, report and text. That this
+-- is a step of a run, as `course` has it, is proved in the crate `engine`. Definitions only.
 use Prim.Native.Nat.{ℕ, _+_, _%_, _^_}
 use mathlib.Core.Path.{_≡_}
 use mathlib.Core.List.{List}

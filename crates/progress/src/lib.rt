@@ -24,7 +24,8 @@ fn refusal_in(answer: Answer) -> Refusal
     }
 }
 
-// A record is left with its line printed and the cursor past it; at once where it is refused, since it then has posted nothing.
+// R9.9: a record is left with its line printed and the cursor past it; at once where it is refused, since it then has posted
+// nothing.
 pub fn leave_record(text: &mut [u8; 1048576], p: Progress, after: usize, report: Report) -> Progress
     ensures { λ r. ⌜ Leaves p after report (now (text .entry)) r (now (text .exit)) ⌝ }
 {
@@ -48,7 +49,7 @@ pub fn leave_record(text: &mut [u8; 1048576], p: Progress, after: usize, report:
     }
 }
 
-// A script that is too long is refused as a whole: its one line, and the last.
+// R9.1: a script that is too long is refused as a whole, by its one line, and the last.
 pub fn refuse_script(text: &mut [u8; 1048576], start: usize) -> usize
     ensures { λ r. ⌜ Refuses (now (text .entry)) start (now (text .exit)) r ⌝ }
 {

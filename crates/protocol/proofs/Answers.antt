@@ -85,7 +85,7 @@ denied-before : {N : ℕ → Node} {M rest : List Message} {p i : ℕ} {s : Stat
 denied-before {p} {i} limited t st = member-same st (no-ack limited i t (nak-exchange p i) refl)
 
 module _ {N N′ : ℕ → Node} {M rest : List Message} {told joins : ℕ → Bool} {p i : ℕ} (limited : Limited N M) (inv : Invariant N M told joins) where
-  -- "SetRAck at ins: in, right number := its number": it was inserted from the grant on, with that number
+  -- R5.10, a joiner hears SetRAck: it was inserted from the grant on, with that number
   pub joins-kept : (n : ℕ) → Taken M (setRAck p i n) rest → N i .status ≡ Ins → At N i (confirmed (N i) n) N′ → Invariant N′ rest told joins
   joins-kept n t ins at =
       answered limited inv t at (ack-exchange p i n) refl (ack-elsewhere p i n) settled-in refl refl refl refl
@@ -98,19 +98,19 @@ module _ {N N′ : ℕ → Node} {M rest : List Message} {told joins : ℕ → B
           coming ins p (rw r at (t .waits))
       keep R _ (coming h w j) = absurd (settled-in .0 (sym (ap statusOf (at .self)) ∙ h))
 
-  -- "At del: out": it was no longer inserted from the grant on
+  -- R5.10, a leaver hears SetRAck: it was no longer inserted from the grant on
   pub goes-kept : (n : ℕ) → Taken M (setRAck p i n) rest → N i .status ≡ Del → At N i (withStatus Out (N i)) N′ → Invariant N′ rest told joins
   goes-kept n t del at =
       answered limited inv t at (ack-exchange p i n) refl (ack-elsewhere p i n) settled-out refl refl refl refl
       (member-same (ap statusOf (at .self)) refl ∙ sym (acked-before N t del)) (λ R m _. absurd (not-both m (acked-before N t del)))
 
-  -- "SetRNak at ins: out"
+  -- R5.11: a joiner hears SetRNak
   pub stays-out-kept : Taken M (setRNak p i) rest → N i .status ≡ Ins → At N i (withStatus Out (N i)) N′ → Invariant N′ rest told joins
   stays-out-kept t ins at =
       answered limited inv t at (nak-exchange p i) refl (λ u d. refl) settled-out refl refl refl refl
       (member-same (ap statusOf (at .self)) refl ∙ sym (denied-before limited t ins)) (λ R m _. absurd (not-both m (denied-before limited t ins)))
 
-  -- "At del: in"
+  -- R5.11: a leaver hears SetRNak
   pub stays-in-kept : Taken M (setRNak p i) rest → N i .status ≡ Del → At N i (withStatus In (N i)) N′ → Invariant N′ rest told joins
   stays-in-kept t del at =
       answered limited inv t at (nak-exchange p i) refl (λ u d. refl) settled-in refl refl refl refl

@@ -52,7 +52,7 @@ unmoved {N} {N′} {M} {M′} inv same acks from to = record {
     member u = member-same (status u) (acks u)
 
 module _ {N N′ : ℕ → Node} {M rest : List Message} {told joins : ℕ → Bool} {i : ℕ} (inv : Invariant N M told joins) (at : At N i (N i) N′) where
-  -- "Not granted: post SetRNak to v."
+  -- R5.9: a request is denied
   pub denies-kept : (v p new e : ℕ) (n : Number) → Taken M (setR v p new e n) rest → Invariant N′ (rest ++ setRNak p v ∷ []) told joins
   denies-kept v p new e n t =
       unmoved inv (unchanged at (λ y. y) refl)
@@ -60,7 +60,7 @@ module _ {N N′ : ℕ → Node} {M rest : List Message} {told joins : ℕ → B
       (λ x f j. ⊎-elim (λ k. t .left x k) (λ d. absurd (apart (λ y. isNak (y .kind)) refl f (sym d))) (in-one rest j))
       (λ w u a k _ j. in-left _ (⊎-elim (λ d. absurd (apart (λ y. isNotice (y .kind)) refl refl d)) (λ l. l) (t .either _ j)))
 
-  -- "A bench that is out drops every message"
+  -- R5.13: a node that is out drops a message
   pub drops-kept : {m : Message} → Limited N M → m .to ≡ i → N i .status ≡ Out → Taken M m rest → Invariant N′ rest told joins
   drops-kept {m} limited to out t = unmoved inv (unchanged at (λ y. y) refl) (λ u. acks-left u t (no-answer u)) (λ x _ j. t .left x j) notice
     where

@@ -26,6 +26,6 @@ no-bit-past s u k = word-past (length (s .nodes)) (inserted s) u k
 pub size-is-ones : (s : State) → ones (insertedWord s) ≡ insertedCount s
 size-is-ones s = word-ones (length (s .nodes)) (inserted s)
 
--- ---- "one 32-bit word"
+-- ---- R4.2: one word of 32 bits
 pub word-fits-32 : (s : State) → T (wellFormed s) → insertedWord s < 2 ^ 32
 word-fits-32 s w = lt-of-lt-of-le (word-fits (length (s .nodes)) (inserted s)) (pow-mono (well-formed s (is-true _ w) .few-nodes))

@@ -83,7 +83,7 @@ module _ {N N′ : ℕ → Node} {M rest : List Message} {told joins : ℕ → B
           left-same (ap lseqOf (at .others u d)) (ap leftOf (at .others u d)) (λ w b l j. t .left _ j)
           (λ w b l j. ⊎-elim (λ e. absurd (d (ap toOf e))) (λ r. r) (t .either _ j)) k
 
--- "if its number is greater than the left number, take both"
+-- R5.12: a newer notice is taken
 pub takes-kept : {N N′ : ℕ → Node} {M rest : List Message} {told joins : ℕ → Bool} {p i a n : ℕ} → Limited N M → Invariant N M told joins
     → Taken M (setL p i a n) rest → newer n (N i .lseq) ≡ true → At N i (leftSet (N i) a n) N′ → Invariant N′ rest told joins
 takes-kept {N} {N′} {M} {rest} {p = p} {i} {a} {n} limited inv t new at = heard limited inv t at refl refl refl refl link
@@ -102,7 +102,7 @@ takes-kept {N} {N′} {M} {rest} {p = p} {i} {a} {n} limited inv t new at = hear
           (w, b, ⊎-elim (λ e. absurd (d (lseq ∙ sym (same-number e)))) (λ l. l) (t .either _ j));
     }
 
--- "else nothing"
+-- R5.12: an older one changes nothing
 pub ignores-kept : {N N′ : ℕ → Node} {M rest : List Message} {told joins : ℕ → Bool} {p i a n : ℕ} → Limited N M → Invariant N M told joins
     → Taken M (setL p i a n) rest → newer n (N i .lseq) ≡ false → At N i (N i) N′ → Invariant N′ rest told joins
 ignores-kept {N} {N′} {M} {rest} {p = p} {i} {a} {n} limited inv t old at = heard limited inv t at refl refl refl refl link

@@ -160,7 +160,7 @@ idle-no-ack : {N : ℕ → Node} {M : List Message} → Limited N M → (u : ℕ
 idle-no-ack {N} {M} limited u e = not-any (isAckTo u) M (λ y j. not-ack u y (no-exchange limited u e j))
 
 module _ {N N′ : ℕ → Node} {M : List Message} {told joins joins′ : ℕ → Bool} (limited : Limited N M) (inv : Invariant N M told joins) (i : ℕ) (other-joins : (u : ℕ) → u ≢ i → joins′ u ≡ joins u) where
-  -- "left p, right q, status ins; SetR(u, q, left number of u) to p"
+  -- R5.2: u asks to join
   pub asks-kept : (p q : Peer) → N i .status ≡ Out → joins′ i ≡ true → any (isNoticeTo i) M ≡ false → Between (N (p .number) .key) (N (q .number) .key) (N i .key)
       → At N i (joining (N i) p q) N′ → Invariant N′ (M ++ setR i (p .number) i (q .number) (N i .lseq) ∷ []) told joins′
   asks-kept p q out joins quiet between at = asked limited inv (record {
@@ -190,7 +190,7 @@ module _ {N N′ : ℕ → Node} {M : List Message} {told joins joins′ : ℕ �
       keys : (u : ℕ) → N′ u .key ≡ N u .key
       keys = unchanged at keyOf refl
 
-  -- "Else del, and SetR(right, u, right number + 1) to its left link"
+  -- R5.4: u asks to leave
   pub leaves-kept : (p q n : ℕ) → N i .status ≡ In → joins′ i ≡ false → N i .right ≡ To q → q ≢ i → N i .rseq ≡ Is n
       → At N i (withStatus Del (N i)) N′ → Invariant N′ (M ++ setR i p q i (nextSeq n) ∷ []) told joins′
   leaves-kept p q n is-in joins right not-alone number at = asked limited inv (record {

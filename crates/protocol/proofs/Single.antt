@@ -29,7 +29,7 @@ use Rattle.protocol.proofs.Frames.{member-same, request-same, settled-i
 
 module _ {N N′ : ℕ → Node} {M : List Message} {told told′ joins : ℕ → Bool} (limited : Limited N M) (inv : Invariant N M told joins)
     (i : ℕ) (others-told : (u : ℕ) → u ≢ i → told′ u ≡ told u) where
-  -- "Create u: links to itself, both numbers 0, status in."
+  -- R5.1: u is created
   pub creates-kept : ((u : ℕ) → N u .status ≡ Out) → any (isNoticeTo i) M ≡ false → told′ i ≡ true → At N i (created i (N i)) N′ → Invariant N′ M told′ joins
   creates-kept out quiet own-told at = record {
     exchanges = record {
@@ -89,7 +89,7 @@ module _ {N N′ : ℕ → Node} {M : List Message} {told told′ joins : ℕ �
           let here : u ≡ i = same-end r (ap (λ w. N′ w .right) d ∙ ap rightOf (at .self)) in
           rw (d, here) (lone R (number R (rw d at k)))
 
-  -- "if u's right link is u, out with no message"
+  -- R5.3: u leaves alone
   pub goes-alone-kept : {joins′ : ℕ → Bool} → ((u : ℕ) → u ≢ i → joins′ u ≡ joins u) → N i .status ≡ In → N i .right ≡ To i → told′ i ≡ false → At N i (withStatus Out (N i)) N′ → Invariant N′ M told′ joins′
   goes-alone-kept other-joins is-in alone own-told at = record {
     exchanges = record {

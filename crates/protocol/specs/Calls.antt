@@ -1,6 +1,6 @@
--- The calls on a network: declare, create, join, leave, deliver. Each has its refusals in paper 01's order, as a list of rules, and its
--- effect, which is that of one node's step: the node's rules are those of the crate `node`, and are not written a second time.
--- Definitions only.
+-- The calls on a network (docs/RULES.md, section 6): declare, create, join, leave, deliver. Each has its refusals in their
+-- order, as a list of rules, and its effect, which is that of one node's step: the node's rules are those of the crate
+-- `node`, and are not written a second time. Definitions only.
 use Prim.Native.Nat.{ℕ, suc}
 use mathlib.Core.Bool.{Bool, not, _&&_}
 use mathlib.Core.List.{List, [], _∷_, _++_}
@@ -29,7 +29,7 @@ pub record Result : Type 0 where
   pub posts : List Message
   pub said : Coded Reply
 
--- "It carries only its number; bench or floor come back equal, nothing is posted."
+-- R6.2: a refusal says its reason; the network is as it was, and nothing is posted
 abbrev pub refused : State → Reason → Result
 refused s r = record { state = s; posts = []; said = no r }
 
@@ -38,7 +38,7 @@ abbrev pub stepped : Coded Outcome → Coded Reply
 stepped (done o) = done (Stepped o)
 stepped (no r) = no r
 
--- node u steps, while `messages` wait: it stands in its place as the step leaves it, and its posts are added at the end
+-- R6.9, node u steps, while `messages` wait: it stands in its place as the step leaves it, and its posts stand at the end
 abbrev pub commit : State → ℕ → List Message → Effect → Result
 commit s u messages e = record {
   state = record { nodes = set (s .nodes) u (e .node); messages = messages ++ e .posts };
@@ -53,7 +53,7 @@ isFull s = not (ltb (length (s .messages)) queueLimit)
 abbrev pub keyIsTaken : State → ℕ → Bool
 keyIsTaken s key = not (everyBelow (length (s .nodes)) (λ v. not (eqb (keyAt s v) key)))
 
--- 20 "32 benches stand", 21 "key taken"
+-- R6.5: 4 of the key, 20 where there is no room, 21 where a node has the key
 abbrev pub declareRules : State → ℕ → List Rule
 declareRules s key =
     (6 when not (wellFormed s))
@@ -62,7 +62,7 @@ declareRules s key =
     ∷ (21 when keyIsTaken s key)
     ∷ []
 
--- "numbered from 0 as declared"
+-- R6.5: behind the others, so that its number is how many they are (R1.7)
 abbrev pub declaring : State → ℕ → Result
 declaring s key = record {
   state = record { nodes = s .nodes ++ (declaredOf key ∷ []); messages = s .messages };
@@ -74,7 +74,7 @@ declaring s key = record {
 abbrev pub allOut : State → Bool
 allOut s = everyBelow (length (s .nodes)) (λ v. isOut (statusAt s v))
 
--- 22 "some bench is not out", 25 "a SetL to the bench waits"
+-- R6.6: 22 where a node is not out, 25 where a notice to it waits
 abbrev pub createRules : State → ℕ → List Rule
 createRules s u =
     (6 when not (wellFormed s))
@@ -87,11 +87,11 @@ abbrev pub creating : State → ℕ → Result
 creating s u = commit s u (s .messages) (createOf u (nodeAt s u))
 
 -- ---- join
--- a neighbour, with its own key
+-- R6.7: a neighbour, with its own key
 abbrev pub peerAt : State → ℕ → Peer
 peerAt s p = record { number = p; key = keyAt s p }
 
--- 23 "bench not out" and 24 "key not in (left, right)" are the step's own; then 25, and 28 "64 messages wait"
+-- R6.7: 5 of each number, the step's own rules (6, 23, 24), 25 where a notice waits, 28 where 64 messages do
 abbrev pub joinRules : State → ℕ → ℕ → ℕ → List Rule
 joinRules s u p q =
     (6 when not (wellFormed s))
@@ -107,7 +107,7 @@ abbrev pub joining : State → ℕ → ℕ → ℕ → Result
 joining s u p q = commit s u (s .messages) (joinOf u (nodeAt s u) (peerAt s p) (peerAt s q))
 
 -- ---- leave
--- 26 "bench not in" and 27 "right number 65,535 and not alone" are the step's own; then 28 of "a leave that posts"
+-- R6.8: 5, the step's own rules (6, 26, 27), and 28 of a leave that posts
 abbrev pub leaveRules : State → ℕ → List Rule
 leaveRules s u =
     (6 when not (wellFormed s))
@@ -124,15 +124,15 @@ leaving s u = commit s u (s .messages) (leaveOf u (nodeAt s u))
 abbrev pub messageAt : State → ℕ → Message
 messageAt s place = getD (s .messages) place (setRNak 0 0)
 
--- "takes the message at a place, closes the gap"
+-- R6.9: the message at a place is taken, and the later ones move up
 abbrev pub without : ℕ → List Message → List Message
 without place ms = take place ms ++ drop (suc place) ms
 
--- whether the message at a place would be granted by the node it is for
+-- R6.10: whether the message at a place would be granted by the node it is for
 abbrev pub isGrantable : State → ℕ → Bool
 isGrantable s place = wouldGrant (nodeAt s (messageAt s place .to)) (messageAt s place .sender) (messageAt s place .kind)
 
--- 28 "the delivery of a SetR that would be granted: 64 messages wait", 29 "no message at that place"
+-- R6.9: 28 of a SetR that would be granted while 64 messages wait, 29 where there is no message
 abbrev pub deliverRules : State → ℕ → List Rule
 deliverRules s place =
     (6 when not (wellFormed s))
@@ -143,7 +143,7 @@ deliverRules s place =
 abbrev pub receiving : State → Message → Effect
 receiving s m = receiveOf (m .to) (nodeAt s (m .to)) m
 
--- "Delivery takes the message at a place, closes the gap, applies the action, and adds its posts at the end in the order named."
+-- R6.9: the message is taken, the addressee acts, and its posts stand at the end
 abbrev pub delivering : State → ℕ → Result
 delivering s place = commit s (messageAt s place .to) (without place (s .messages)) (receiving s (messageAt s place))
 
@@ -162,6 +162,6 @@ effectOf s (Order (Join u p q)) = joining s u p q
 effectOf s (Order (Leave u)) = leaving s u
 effectOf s (Deliver place) = delivering s place
 
--- "A refusal is given where its condition holds and no earlier one does, and at no other time."
+-- R6.1: the first of its rules that holds refuses a call, and else it has its effect
 unfoldable pub applyOf : State → Call → Result
 applyOf s call = ruled (rulesOf s call) (refused s) (effectOf s call)

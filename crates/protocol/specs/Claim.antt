@@ -1,5 +1,5 @@
--- The claim of demand 3: what holds after any list of calls from the empty network. It is stated here in full, and cites no proof.
--- Definitions only.
+-- The claim over lists (docs/RULES.md, section 10): what holds after any list of calls from the empty network. It is stated
+-- here in full, and cites no proof. Definitions only.
 use Prim.Native.Nat.{ℕ, _+_, _*_, _<_, _≤_}
 use mathlib.Core.Path.{_≡_}
 use mathlib.Core.Bool.{false, not}
@@ -31,15 +31,15 @@ abbrev pub delivered : State → List ℕ → ℕ
 delivered s [] = 0
 delivered s (place ∷ places) = bit (accepted (applyOf s (Deliver place) .said)) + delivered (applyOf s (Deliver place) .state) places
 
--- three for each SetR and one for each other message
+-- R10.9: three for each SetR and one for each other message
 abbrev pub load : List Message → ℕ
 load ms = 3 * count (λ m. isRequest (m .kind)) ms + count (λ m. not (isRequest (m .kind))) ms
 
 -- ---- what holds of every well-formed network, ring or not
 pub record Lively (s : State) : Type 0 where
-  -- while a message waits, a delivery at some place is not refused
+  -- R10.8: while a message waits, a delivery at some place is not refused
   pub progress : 0 < length (s .messages) → (place : ℕ) × Delivers s place
-  -- of any deliveries that may follow, at whichever places, no more than the load are not refused
+  -- R10.9: of any deliveries that may follow, at whichever places, no more than the load are not refused
   pub bound : (places : List ℕ) → delivered s places ≤ load (s .messages)
 
 -- each call leaves a well-formed network, and such a network is lively
@@ -52,24 +52,24 @@ SteadyClaim = (s : State) → T (wellFormed s) → Steady s
 
 -- ---- the ring of the inserted nodes
 pub record Ringed (s : State) : Type 0 where
-  -- from each inserted node the right links lead once through each inserted node, through no other, and home; the key rises at every
-  -- move but one; a lone node moves to itself
+  -- R10.5: from each inserted node the right links lead once through each inserted node, through no other, and home;
+  -- R10.6: the key rises at every move but one; a lone node moves to itself
   pub circuit : (u : ℕ) → Inserted s u → Circuit (keyAt s) (rightAt s) (Inserted s) u
-  -- just one inserted node has a right link to each inserted node
+  -- R10.7: just one inserted node has a right link to each inserted node
   pub predecessor : (u : ℕ) → Inserted s u → Predecessor (rightAt s) (Inserted s) u
-  -- and where no SetL to a node waits, its left link names that one
+  -- R10.7: and where no SetL to a node waits, its left link names that one
   pub left : (u p : ℕ) → Inserted s u → noticeWaits s u ≡ false → Inserted s p → rightAt s p ≡ To u → leftAt s u ≡ To p
 
 -- ---- what holds after a list of calls
 pub record Sound (h : History) : Type 0 where
-  -- the network is well formed, and its numbers are such as the fields can hold
+  -- R10.10: the network is well formed, and its numbers are such as the fields can hold
   pub well-formed : T (wellFormed (h .state))
   pub numbers-fit : T (numbersFit (h .state))
-  -- who is inserted by the calls and their outcomes is who is inserted by the definition under "Between"
+  -- R10.4: who is told inserted by the calls and their answers is who is inserted by R4.1
   pub told : (u : ℕ) → h .told u ≡ inserted (h .state) u
   pub ring : Ringed (h .state)
   pub lively : Lively (h .state)
 
--- for every list of calls, of any arguments, refused ones included
+-- R10.1: for every list of calls, of any arguments, refused ones included
 abbrev pub RingClaim : Type 0
 RingClaim = (calls : List Call) → Sound (history calls)

@@ -1,5 +1,5 @@
--- A drain of a network (paper 01: "run down"): deliveries one after the other, each at the lowest place where one is not refused, until
--- nothing waits or a budget is spent. Definitions only.
+-- A drain of a network (paper 01: run down; docs/RULES.md, section 8): deliveries one after the other, each at the lowest
+-- place where one is not refused, until nothing waits or a budget is spent. Definitions only.
 use Prim.Native.Nat.{ℕ, zero, suc}
 use mathlib.Core.Bool.{not, cond}
 use mathlib.Core.List.{List, [], _∷_, _++_}
@@ -13,7 +13,7 @@ use Rattle.protocol.specs.State.{State, wellFormed}
 use Rattle.protocol.specs.Calls.{Result, refused, applyOf}
 use Rattle.protocol.specs.Answer.{accepted}
 
--- "the lowest place that is not refused", of the k places from `place` on
+-- R8.1: the lowest place where a delivery is not refused, of the k places from `place` on
 abbrev pub lowestFrom : State → ℕ → ℕ → Option ℕ
 lowestFrom s place zero = none
 lowestFrom s place (suc k) = cond (accepted (applyOf s (Deliver place) .said)) (some place) (lowestFrom s (suc place) k)
@@ -29,7 +29,7 @@ abbrev pub placesFrom : (State → List ℕ) → State → Option ℕ → List �
 placesFrom rest s none = []
 placesFrom rest s (some place) = place ∷ rest (afterDelivery s place)
 
--- "deliver .. again and again, until nothing waits or the budget is spent": the places of these deliveries, in turn
+-- R8.1: the places of the deliveries, in turn, until nothing waits or the budget is spent
 abbrev pub places : ℕ → State → List ℕ
 places zero s = []
 places (suc budget) s = placesFrom (places budget) s (lowest s)
@@ -44,7 +44,7 @@ abbrev pub postsOfAll : State → List ℕ → List Message
 postsOfAll s [] = []
 postsOfAll s (place ∷ rest) = applyOf s (Deliver place) .posts ++ postsOfAll (afterDelivery s place) rest
 
--- "The answer is the deliveries made and the messages left."
+-- R8.2: the answer is the deliveries made and the messages left
 abbrev pub drained : State → List ℕ → Result
 drained s places = record {
   state = deliverAll s places;
@@ -52,5 +52,6 @@ drained s places = record {
   said = done (Ran (length places) (length (deliverAll s places .messages)));
 }
 
+-- R8.3: it is refused 6, and by nothing else
 unfoldable pub drainOf : State → ℕ → Result
 drainOf s budget = ruled ((6 when not (wellFormed s)) ∷ []) (refused s) (drained s (places budget s))

@@ -1,5 +1,6 @@
--- What each event does to the ring: who is inserted, in which order, and along which right links. It is claimed of every list of calls and
--- of any call after it, and cites no proof. What is said of the ring later can go by the event, and need not go by the call. Definitions only.
+-- R10.3, what each event does to the ring: who is inserted, in which order, and along which right links. It is claimed of
+-- every list of calls and of any call after it, and cites no proof. What is said of the ring later can go by the event, and
+-- need not go by the call. Definitions only.
 use mathlib.Core.Path.{_≡_}
 use mathlib.Core.Logic.{_⊎_, _↔_, _≢_}
 use mathlib.Core.List.{List, [], _∷_, _++_, List·Memᴰ}

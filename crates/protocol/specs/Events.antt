@@ -1,5 +1,5 @@
--- What a call did to the ring, read off the call and its answer: one event, and who is told inserted after it. No node is looked at, and
--- of a message only whose it is and for whom. Definitions only.
+-- What a call did to the ring, read off the call and its answer: one event, and who is told inserted after it. No node is
+-- looked at, and of a message only whose it is and for whom. Definitions only.
 use Prim.Native.Nat.{ℕ}
 use mathlib.Core.Bool.{Bool, true, false, cond}
 use lib.Dec.{eqb}
@@ -13,7 +13,7 @@ use Rattle.protocol.specs.Answer.{accepted, isGranted, isLeftAlone, says
 use Rattle.protocol.specs.State.{State}
 use Rattle.protocol.specs.Calls.{messageAt}
 
--- ---- the events
+-- ---- R10.3: the events
 pub data Event : Type 0 where
   -- the ring is as it was
   stays : Event
@@ -26,7 +26,8 @@ pub data Event : Type 0 where
   -- u was the last, and went alone
   emptied : (u : ℕ) → Event
 
--- a SetR granted by its delivery: where it asked for a join, its sender is let in after the node that it is for, and else released to it
+-- R10.2, a SetR granted by its delivery: where it asked for a join, its sender is let in after the node that it is for, and
+-- else released to it
 abbrev pub grantOf : (ℕ → Bool) → Message → Event
 grantOf joins m = cond (joins (m .sender)) (admitted (m .sender) (m .to)) (released (m .sender) (m .to))
 
@@ -43,7 +44,7 @@ eventOf s joins (Deliver place) said = cond (says isGranted said) (grantOf joins
 abbrev pub put : (ℕ → Bool) → ℕ → Bool → ℕ → Bool
 put f u b v = cond (eqb v u) b (f v)
 
--- told inserted: those who founded the ring or were let in, and since the last of these were not released and did not go alone
+-- R10.2, told inserted: those who founded the ring or were let in, and since then were not released and did not go alone
 abbrev pub toldAfter : (ℕ → Bool) → Event → ℕ → Bool
 toldAfter told stays = told
 toldAfter told (founded u) = put told u true

@@ -1,5 +1,6 @@
--- Paper 01's example script as a list of calls, and the answers that the paper prints for it; and a longer list, in which leaves are
--- granted and a notice comes late. `proofs/Example.antt` shows by computation that the definitions give these answers. Definitions only.
+-- Paper 01's example script as a list of calls, and the answers that it must have; and a longer list, in which leaves are
+-- granted and a notice comes late. `proofs/Example.antt` shows by computation that the definitions give these answers.
+-- Definitions only.
 use mathlib.Core.List.{List, [], _∷_}
 use Rattle.refusal.specs.Code.{plain}
 use Rattle.refusal.specs.Rules.{Coded, done, no}
@@ -33,7 +34,7 @@ script =
     ∷ Deliver 0
     ∷ []
 
--- "1 bench 0 key 1000" to "12 no 29"
+-- the answers, all but that to the question
 abbrev pub printed : List (Coded Reply)
 printed =
     done (Declared 0 1_000)

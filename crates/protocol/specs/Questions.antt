@@ -1,5 +1,5 @@
--- What a network is asked without being changed: who is inserted, and which node owns a serial. A question has its refusals in paper
--- 01's order, as a call has. Definitions only.
+-- What a network is asked without being changed: who is inserted, and which node owns a serial. A question has its refusals
+-- in their order, as a call has. Definitions only.
 use Prim.Native.Nat.{ℕ, zero, suc}
 use mathlib.Core.Bool.{not, cond}
 use mathlib.Core.List.{List, [], _∷_}
@@ -16,36 +16,36 @@ use Rattle.protocol.specs.declared.Reply.the-variants.{Owner, Inserted}
 use Rattle.protocol.specs.State.{State, declared, keyAt, rightAt, wellFormed, inserted}
 
 -- ---- who is inserted
--- "one 32-bit word, bit n for bench n"
+-- R4.2: bit n for node n
 abbrev pub insertedWord : State → ℕ
 insertedWord s = wordBelow (length (s .nodes)) (inserted s)
 
--- how many are inserted
+-- R4.2: how many are inserted
 abbrev pub insertedCount : State → ℕ
 insertedCount s = countBelow (length (s .nodes)) (inserted s)
 
+-- R6.11
 unfoldable pub insertedOf : State → Coded Reply
 insertedOf s = ruled ((6 when not (wellFormed s)) ∷ []) no (done (Inserted (insertedWord s) (insertedCount s)))
 
--- ---- "Owner of serial d from a start bench"
+-- ---- the owner of a serial
 -- where a walk to an owner ends: at a node, with the hops made, or nowhere
 pub data Walk : Type 0 where
   found : ℕ → ℕ → Walk
   lost : Walk
 
--- at node u, after some hops: u is the owner if the serial is in [key, key of right link), and else it is looked for from the right link on;
--- "a right link missing" ends the walk
+-- R7.1, at node u, after some hops: u is the owner if the serial is in [key, key of right link), and else it is looked for
+-- from the right link on; R7.2: a missing right link ends the walk
 abbrev pub ownerAt : State → ℕ → ℕ → ℕ → Link → (ℕ → Walk) → Walk
 ownerAt s serial u hops Unlinked beyond = lost
 ownerAt s serial u hops (To q) beyond = cond (within (keyAt s u) (keyAt s q) serial) (found u hops) (beyond q)
 
--- "while d is not in [key, key of right link), go to the right link; each move is a hop", with so many hops left to make;
--- "as many hops as benches made without success" end it
+-- R7.1: from node to node, with so many hops left to make; R7.2: without success they end it
 abbrev pub ownerFrom : State → ℕ → ℕ → ℕ → ℕ → Walk
 ownerFrom s serial zero u hops = lost
 ownerFrom s serial (suc left) u hops = ownerAt s serial u hops (rightAt s u) (λ q. ownerFrom s serial left q (suc hops))
 
--- 5 and 4 field by field, as the record has them: the start, then the serial; 30 "start not inserted"
+-- R7.3: 5 of the start, 4 of the serial, 30 of a start that is not inserted
 abbrev pub ownerRules : State → ℕ → ℕ → List Rule
 ownerRules s start serial =
     (6 when not (wellFormed s))
@@ -54,10 +54,11 @@ ownerRules s start serial =
     ∷ (30 when not (inserted s start))
     ∷ []
 
--- "The answer is the bench and the hops made"; 31 where the walk ends nowhere
+-- R7.1: the answer is the node and the hops; R7.2: 31 where the walk ends nowhere
 abbrev pub walked : Walk → Coded Reply
 walked (found u hops) = done (Owner u hops)
 walked lost = no (plain 31)
 
+-- R7.2: as many hops as there are nodes may be made
 unfoldable pub ownerOf : State → ℕ → ℕ → Coded Reply
 ownerOf s start serial = ruled (ownerRules s start serial) no (walked (ownerFrom s serial (length (s .nodes)) start 0))

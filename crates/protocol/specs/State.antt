@@ -1,5 +1,6 @@
--- A network as the lists of its nodes and of its waiting messages (paper 01: a "floor"), when it is well formed ("in shape"), and which
--- of its nodes are inserted. The lists may have any length; the limits are clauses of well-formedness. Definitions only.
+-- A network as the lists of its nodes and of its waiting messages (paper 01: a floor), when it is well formed (in shape),
+-- and which of its nodes are inserted. The lists may have any length; the limits are clauses of well-formedness.
+-- Definitions only.
 use Prim.Native.Nat.{ℕ}
 use mathlib.Core.Bool.{Bool, true, false, not, _&&_, _||_}
 use mathlib.Core.List.{List, []}
@@ -16,16 +17,16 @@ use Rattle.parts.specs.Shape.{messageFits}
 use Rattle.node.specs.declared.Node.{Node}
 use Rattle.node.specs.Shape.{declaredOf, capacity, nodeFits}
 
--- a node's number is its place among the nodes; messages stand in the order posted
+-- R1.7: a node's number is its place among the nodes; messages stand in the order posted
 pub record State : Type 0 where
   pub nodes : List Node
   pub messages : List Message
 
--- "A cleared floor has neither."
+-- R1.8: no nodes, and no messages
 abbrev pub empty : State
 empty = record { nodes = []; messages = [] }
 
--- "up to 64 messages on the way"; the limit of nodes is the single step's `capacity`
+-- R1.7: the limit of messages; that of nodes is the single step's `capacity`
 abbrev pub queueLimit : ℕ
 queueLimit = 64
 
@@ -52,11 +53,11 @@ rightAt s u = nodeAt s u .right
 abbrev pub isAckTo : ℕ → Message → Bool
 isAckTo u m = isAck (m .kind) && eqb (m .to) u
 
--- "the left notice of a bench is a SetL addressed to it"
+-- a notice to a node is a SetL addressed to it
 abbrev pub isNoticeTo : ℕ → Message → Bool
 isNoticeTo u m = isNotice (m .kind) && eqb (m .to) u
 
--- "SetR from it or answer to it"
+-- an exchange of a node is a SetR from it or an answer to it
 abbrev pub isExchangeOf : ℕ → Message → Bool
 isExchangeOf u m = (isRequest (m .kind) && eqb (m .sender) u) || (isAnswer (m .kind) && eqb (m .to) u)
 
@@ -67,42 +68,40 @@ abbrev pub noticeWaits : State → ℕ → Bool
 noticeWaits s u = any (isNoticeTo u) (s .messages)
 
 -- ---- well-formedness
--- "keys differ": from the keys of all nodes before it
+-- R2.3: the key of a node is not that of a node before it
 abbrev pub keyIsNew : State → ℕ → Bool
 keyIsNew s u = everyBelow u (λ v. not (eqb (keyAt s v) (keyAt s u)))
 
--- "at most one .. and one only while it is ins or del"
+-- R2.6: how many exchanges a node of this status may have
 abbrev pub exchanges : Status → ℕ
 exchanges Out = 0
 exchanges Ins = 1
 exchanges In = 0
 exchanges Del = 1
 
--- what is asked of one node: that it fits among the nodes declared (its key in range, its links declared, both there unless it is
--- out, a right number while it is in or del), that its key is its own, and that it has no more exchanges than its status allows
+-- what is asked of one node: R2.3 to R2.5, that it fits among the nodes declared; R2.3, that its key is its own; R2.6, that
+-- it has no more exchanges than its status allows
 abbrev pub nodeIsWellFormed : State → ℕ → Bool
 nodeIsWellFormed s u =
     nodeFits (length (s .nodes)) (nodeAt s u)
     && (keyIsNew s u
     && leb (count (isExchangeOf u) (s .messages)) (exchanges (statusAt s u)))
 
--- "counts are within limits; .. keys differ and are in range; bench numbers in links and messages are declared; .. a bench not out has
--- both links; a bench in or del has a right number; each bench has at most one SetR from it or answer to it waiting, and one only
--- while it is ins or del. Links need not form a ring". What lies past the counts is no part of these lists; that "numbers are at most
--- 65,535" is in the fields' type, and stands apart, below.
+-- R2.1, the limits; R2.3 to R2.6, each node; R2.4, each message. R2.2 speaks of what lies past the counts, which is no part
+-- of these lists. R2.7 is in the fields' type, and stands apart, below. No clause asks for a ring (R2.8).
 unfoldable pub wellFormed : State → Bool
 wellFormed s =
     (leb (length (s .nodes)) capacity && leb (length (s .messages)) queueLimit)
     && (everyBelow (length (s .nodes)) (nodeIsWellFormed s)
     && every (messageFits (length (s .nodes))) (s .messages))
 
--- ---- "numbers are at most 65,535": what the fields of nodes and messages can hold
+-- ---- R2.7: what the fields of nodes and messages can hold
 unfoldable pub numbersFit : State → Bool
 numbersFit s =
     everyBelow (length (s .nodes)) (λ u. isSeq (nodeAt s u .lseq) && seqFits (nodeAt s u .rseq))
     && every (λ m. numberFits (m .kind)) (s .messages)
 
--- ---- "A bench is inserted if it is in; or ins with a SetRAck to it waiting; or del with none waiting"
+-- ---- R4.1: who is inserted, by the status and by whether a SetRAck to the node waits
 abbrev pub isInserted : Status → Bool → Bool
 isInserted Out acknowledged = false
 isInserted Ins acknowledged = acknowledged

@@ -1,5 +1,6 @@
-// What a network of nodes is asked to do and what it answers. The rules of the calls are definitions in `specs/`, and the claim
-// about any list of them is proved in `proofs/`; the functions that carry them out on arrays stand in a crate above.
+// What a network of nodes is asked to do and what it answers. The rules of the calls (docs/RULES.md, sections 6 to 8) are
+// definitions in `specs/`, and the claim about any list of them (section 10) is proved in `proofs/`; the functions that carry
+// them out on arrays stand in a crate above.
 use node::Outcome;
 use refusal::Refusal;
 

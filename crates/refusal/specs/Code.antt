@@ -1,33 +1,34 @@
--- The number that paper 01 gives each refusal, in the paper's order and with its condition beside it, and what a refusal says: its
--- reason. A contract that refuses states a reason, and reads the code's answer through `reason`. Definitions only.
+-- The number of each refusal, in the order of the table in docs/RULES.md, section 6, with its condition in a phrase;
+-- and what a refusal says: its reason. A contract that refuses states a reason, and reads the code's answer through
+-- `reason`. Definitions only.
 use Prim.Native.Nat.{ℕ}
 use Rattle.refusal.specs.declared.Refusal.{Refusal}
 use Rattle.refusal.specs.declared.Refusal.the-variants.{UnknownMark, CutShort, BadDigit, SerialTooLarge, Undeclared, Malformed, ScriptTooLong, NetworkFull, KeyTaken, NotAllOut, NotOut, NotBetween, NoticeWaiting, NotIn, SequenceSpent, QueueFull, NoMessage, StartNotInserted, OwnerNotFound}
 
 abbrev pub code : Refusal → ℕ
--- "From the input"
-code UnknownMark = 1  -- unknown mark
-code CutShort = 2  -- record cut short
-code BadDigit = 3  -- a BCD digit above 9
-code SerialTooLarge = 4  -- a serial above 99,999,999, in binary or handed in as a number
-code Undeclared = 5  -- bench number not declared
-code Malformed = 6  -- a bench, message or floor handed in is out of shape
-code ScriptTooLong = 7  -- script over 65,536 bytes
--- "From the state"
-code NetworkFull = 20  -- declare: 32 benches stand
-code KeyTaken = 21  -- declare: key taken
-code NotAllOut = 22  -- create: some bench is not out
-code NotOut = 23  -- join: bench not out
-code NotBetween = 24  -- join: key not in (left, right)
-code NoticeWaiting = 25  -- create or join: a SetL to the bench waits
-code NotIn = 26  -- leave: bench not in
-code SequenceSpent = 27  -- leave: right number 65,535 and not alone
-code QueueFull = 28  -- 64 messages wait
-code NoMessage = 29  -- deliver: no message at that place
-code StartNotInserted = 30  -- owner: start not inserted
-code OwnerNotFound = 31  -- owner: no success within the hops, or a right link missing
+-- from the input
+code UnknownMark = 1  -- two bytes that are no mark
+code CutShort = 2  -- a record without all its bytes
+code BadDigit = 3  -- a packed serial with a digit above 9
+code SerialTooLarge = 4  -- a binary serial, or one handed in as a number, above 99,999,999
+code Undeclared = 5  -- a number that names no declared node
+code Malformed = 6  -- a node, message or network that is not well formed
+code ScriptTooLong = 7  -- a script of more than 65,536 bytes
+-- from the state
+code NetworkFull = 20  -- declare: there are 32 nodes
+code KeyTaken = 21  -- declare: a node has this key
+code NotAllOut = 22  -- create: a node is not out
+code NotOut = 23  -- join: the node is not out
+code NotBetween = 24  -- join: the key is not between those of left and right
+code NoticeWaiting = 25  -- create, join: a SetL to the node waits
+code NotIn = 26  -- leave: the node is not in
+code SequenceSpent = 27  -- leave: the right number is the last, and the node not alone
+code QueueFull = 28  -- join, leave that posts, delivery to be granted: 64 messages wait
+code NoMessage = 29  -- deliver: no message is at the place
+code StartNotInserted = 30  -- owner: the start is not inserted
+code OwnerNotFound = 31  -- owner: the walk does not find it
 
--- ---- what a refusal says: its number, and nothing else so far
+-- ---- R6.2: what a refusal says, which is its number and nothing else so far
 pub data Reason : Type 0 where
   plain : ℕ → Reason
 

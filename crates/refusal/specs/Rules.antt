@@ -1,5 +1,5 @@
--- How a call refuses: its rules stand in the paper's order, and the first whose condition holds gives its reason. Definitions
--- only.
+-- R6.1, how a call refuses: its rules stand in their order, and the first whose condition holds gives its reason.
+-- Definitions only.
 use Prim.Native.Nat.{ℕ}
 use mathlib.Core.Bool.{Bool, cond}
 use mathlib.Core.List.{List, [], _∷_}
@@ -17,12 +17,12 @@ pub data Coded (A : Type 0) : Type 0 where
 pub data Rule : Type 0 where
   rule : Reason → Bool → Rule
 
--- the same of a number of paper 01
+-- the same of a reason that is a number
 infix 10 _when_
 abbrev pub _when_ : ℕ → Bool → Rule
 n when refuses = rule (plain n) refuses
 
--- "A refusal is given where its condition holds and no earlier one does, and at no other time."
+-- R6.1: the first condition that holds refuses, and none where none holds
 abbrev pub first : List Rule → Option Reason
 first [] = none
 first (rule r refuses ∷ rules) = cond refuses (some r) (first rules)

@@ -45,7 +45,7 @@ pub fn no_tally() -> Tally
     Tally { made: 0, posted: 0 }
 }
 
-// Whether a drain goes on, with so many messages waiting.
+// Whether a drain goes on (R8.1), with so many messages waiting.
 pub fn goes_on(tally: Tally, budget: u16, waiting: u8) -> bool
     ensures { λ r. ⌜ r ≡ (ltb (tally .made) budget && ltb 0 waiting) ⌝ }
 {

@@ -1,4 +1,4 @@
-// The ring program: a script on standard input, its printout on standard output. One byte more than a script may have is asked for, so that
+// The ring program (R9.9): a script on standard input, its printout on standard output. One byte more than a script may have is asked for, so that
 // a longer one shows. A script that cannot be read, and a printout that cannot be written, is told on standard error: a program has no
 // exit status.
 ghost use Rattle.io.specs.Counts.{Counts};

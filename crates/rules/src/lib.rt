@@ -1,6 +1,7 @@
-// What an order or a delivery comes to, from the few values that its rules look at: its refusal, or the change to be carried out and what is told
-// of it. No network is handed in and none is changed, so that a call by value and a call in place are the same decision. `specs/` says it, with the steps
-// of the crate `node` and what `decision` makes of them; that this is what paper 01's rules say of a well-formed network is proved in the crate `engine`.
+// The rules as code: what an order or a delivery comes to, from the few values that its rules look at, which is its refusal, or
+// the change to be carried out and what is told of it. No network is handed in and none is changed, so that a call by value and
+// a call in place are the same decision. `specs/` says it, with the steps of the crate `node` and what `decision` makes of them;
+// that on a well-formed network this is what the crate `protocol` says is proved in the crate `engine`.
 ghost use mathlib.Core.Path.{_≡_};
 ghost use Rattle.decision.specs.Decided.{decided};
 ghost use Rattle.rules.specs.Decisions.{declareDecision, createDecision, joinDecision, leaveDecision, orderDecision, deliveryDecision};
@@ -14,6 +15,7 @@ use refusal::Check;
 use refusal::Refusal;
 use searches::Found;
 
+// R6.5.
 fn decide_declare(key: u32, count: u8, taken: bool) -> Decision
     ensures { λ r. ⌜ decided r ≡ declareDecision key count taken ⌝ }
 {
@@ -29,6 +31,7 @@ fn decide_declare(key: u32, count: u8, taken: bool) -> Decision
     decision::unless_refused(check, decision::adding(count, key))
 }
 
+// R6.6.
 fn decide_create(number: u8, count: u8, node: Node, found: Found) -> Decision
     ensures { λ r. ⌜ decided r ≡ createDecision number count node found ⌝ }
 {
@@ -44,6 +47,7 @@ fn decide_create(number: u8, count: u8, node: Node, found: Found) -> Decision
     decision::unless_refused(check, decision::stepping(number, node.create(number)))
 }
 
+// R6.7.
 fn decide_join(number: u8, left: u8, right: u8, sight: Sight, notice: bool) -> Decision
     ensures { λ r. ⌜ decided r ≡ joinDecision number left right sight notice ⌝ }
 {
@@ -71,6 +75,7 @@ fn decide_join(number: u8, left: u8, right: u8, sight: Sight, notice: bool) -> D
     decision::unless_refused(check, decision::stepping(number, step))
 }
 
+// R6.8.
 fn decide_leave(number: u8, count: u8, waiting: u8, node: Node) -> Decision
     ensures { λ r. ⌜ decided r ≡ leaveDecision number count waiting node ⌝ }
 {
@@ -103,7 +108,7 @@ pub fn decide_order(order: Order, sight: Sight, found: Found) -> Decision
     }
 }
 
-// A delivery, from what it looks at.
+// A delivery, from what it looks at (R6.9).
 pub fn decide_delivery(place: u8, arrival: Arrival) -> Decision
     ensures { λ r. ⌜ decided r ≡ deliveryDecision place arrival ⌝ }
 {

@@ -1,4 +1,4 @@
-// Where a drain delivers next, on any network.
+// Where a drain delivers next (R8.1), on any network.
 ghost use mathlib.Core.Path.{_≡_};
 ghost use Rattle.ruling.specs.Places.{findsRoom, lowestPlace};
 use network::Network;

@@ -1,4 +1,5 @@
--- What is read of paper 01's example script, and of single records that the paper gives or that its table comes-to. Each computes.
+-- What is read of paper 01's example script, and of single records for the rules R9.2 to R9.4 and the refusals 1 to 4. Each
+-- computes.
 -- Assumes nothing.
 use Prim.Native.Nat.{ℕ, zero, suc}
 use mathlib.Core.Path.{_≡_, refl}
@@ -56,7 +57,7 @@ paper-script :
 unfolding readAt readings paperScript
 paper-script = refl
 
--- ---- "BC 00 00 12 34 is 1,234", "BN 00 00 12 34 is refused 4", "BC 00 00 00 0A is refused 3": the cursor goes on
+-- ---- R9.4: bytes of a serial in the one form and in the other, and refusals 3 and 4, after which the cursor goes on
 packed : readAt (0x42 ∷ 0x43 ∷ 0x00 ∷ 0x00 ∷ 0x12 ∷ 0x34 ∷ []) 0 ≡ next (Declare (Value 1_234)) 6
 unfolding readAt
 packed = refl
@@ -69,12 +70,12 @@ bad-digit : readAt (0x42 ∷ 0x43 ∷ 0x00 ∷ 0x00 ∷ 0x00 ∷ 0x0a ∷ []) 0 
 unfolding readAt
 bad-digit = refl
 
--- ---- "2 bytes low first"
+-- ---- R9.3: a budget has its low byte first
 low-byte-first : readAt (0x52 ∷ 0x44 ∷ 0x01 ∷ 0x02 ∷ []) 0 ≡ next (Drain 513) 4
 unfolding readAt
 low-byte-first = refl
 
--- ---- 2 "record cut short (one byte of a mark too)"; 1 "unknown mark", as a mark's letters are capitals
+-- ---- refusal 2 of a record and of a mark cut short; refusal 1 of an unknown mark, as a mark's letters are capitals
 cut-in-the-mark : readAt (0x42 ∷ []) 0 ≡ stop (plain 2)
 unfolding readAt
 cut-in-the-mark = refl

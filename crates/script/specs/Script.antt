@@ -1,5 +1,5 @@
--- A script, record by record: "A two-byte mark stands before each record", then its fields. What is read at a cursor is a record with the
--- cursor after it, the end of the script, or a refusal that stops the reading. Definitions only.
+-- A script, record by record: a mark of two bytes, then the fields (R9.2 to R9.4). What is read at a cursor is a record with
+-- the cursor after it, the end of the script, or a refusal that stops the reading. Definitions only.
 use Prim.Native.Nat.{ℕ, _+_}
 use Prim.Native.Char.{code as byte}
 use Prim.Native.String.{String, [] as nothing, _∷_ as _then_}
@@ -26,7 +26,7 @@ pub data Read : Type 0 where
   stop : Reason → Read
   next : Record → ℕ → Read
 
--- ---- the table of marks
+-- ---- R9.2: the table of marks
 abbrev pub spells : String → ℕ → ℕ → Bool
 spells nothing a b = false
 spells (c then nothing) a b = false
@@ -45,7 +45,7 @@ markOf a b =
     (cond (spells "RD" a b) (Known Drain)
     Unknown))))))))
 
--- the bytes of the fields: "Bench and place are one byte", a serial has four, a budget two
+-- R9.3, R9.4: a node and a place have one byte, a serial has four, a budget two
 abbrev pub sizeOf : Mark → ℕ
 sizeOf PackedDeclare = 4
 sizeOf BinaryDeclare = 4
@@ -61,7 +61,7 @@ sizeOf Drain = 2
 abbrev pub four : List ℕ → ℕ → List ℕ
 four fields i = getD fields i 0 ∷ getD fields (i + 1) 0 ∷ getD fields (i + 2) 0 ∷ getD fields (i + 3) 0 ∷ []
 
--- the record that the fields make; a serial in it is a number, or the refusal that comes at its turn
+-- R9.2 to R9.4: the record that the fields make; a serial in it is a number, or the refusal that comes at its turn
 abbrev pub recordOf : Mark → List ℕ → Record
 recordOf PackedDeclare fields = DeclareRecord (packedOf (four fields 0))
 recordOf BinaryDeclare fields = DeclareRecord (binaryOf (four fields 0))
@@ -71,23 +71,23 @@ recordOf Leave fields = CallRecord (Order (LeaveOrder (getD fields 0 0)))
 recordOf Deliver fields = CallRecord (DeliverCall (getD fields 0 0))
 recordOf PackedOwner fields = OwnerRecord (getD fields 0 0) (packedOf (four fields 1))
 recordOf BinaryOwner fields = OwnerRecord (getD fields 0 0) (binaryOf (four fields 1))
--- "2 bytes low first"
+-- R9.3: a budget has its low byte first
 recordOf Drain fields = DrainRecord (positional 256 (reverse (getD fields 0 0 ∷ getD fields 1 0 ∷ [])))
 
 -- ---- a record at a cursor
--- 1 "unknown mark", 2 "record cut short"; `at` is the cursor after the mark
+-- refusal 1 of an unknown mark, refusal 2 of a record cut short; `at` is the cursor after the mark
 abbrev pub readFields : Lookup → List ℕ → ℕ → Read
 readFields Unknown fields at = stop (plain 1)
 readFields (Known mark) fields at = cond (ltb (length fields) (sizeOf mark)) (stop (plain 2)) (next (recordOf mark fields) (at + sizeOf mark))
 
--- 2 "(one byte of a mark too)"
+-- refusal 2 of one byte where a mark should be
 unfoldable pub readAt : List ℕ → ℕ → Read
 readAt script at =
     cond (leb (length script) at) end
     (cond (ltb (length script) (at + 2)) (stop (plain 2))
     (readFields (markOf (getD script at 0) (getD script (at + 1) 0)) (drop (at + 2) script) (at + 2)))
 
--- ---- "Where an answer is an enum, a definition gives this paper's number and values for each case of the enum."
+-- ---- R11.3: what the code's reading says
 abbrev pub reading : Reading → Read
 reading End = end
 reading (Stopped r) = stop (reason r)

@@ -1,4 +1,4 @@
-// Reading a script: the record at a cursor, for every slice of bytes and every cursor. A record's serial is read in its form, and stands
+// Reading a script (R9.2 to R9.5): the record at a cursor, for every slice of bytes and every cursor. A record's serial is read in its form, and stands
 // in the record as a number or as the refusal that comes at the serial's turn, after those of the fields before it.
 ghost use mathlib.Core.Path.{_≡_};
 ghost use Prim.Native.Nat.{_<_};
@@ -11,7 +11,7 @@ use protocol::Order;
 use refusal::Refusal;
 use serial::Serial;
 
-// The rows of paper 01's table of marks: which fields follow, and how a serial is written there.
+// The rows of the table of marks: which fields follow, and how a serial is written there.
 pub enum Mark {
     PackedDeclare,
     BinaryDeclare,

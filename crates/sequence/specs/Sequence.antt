@@ -1,5 +1,5 @@
--- Sequence numbers: paper 01's left and right numbers, "0 to 65,535". They are made, compared and advanced by these definitions alone;
--- what follows from them is in `proofs/Laws.antt`. Definitions only.
+-- R1.2, sequence numbers (paper 01: left and right numbers). They are made, compared and advanced by these definitions
+-- alone; what follows from them is in `proofs/Laws.antt`. Definitions only.
 use Prim.Native.Nat.{ℕ, _+_}
 use mathlib.Core.Bool.{Bool, cond}
 use lib.Dec.{ltb, leb, eqb}
@@ -7,32 +7,33 @@ use lib.Dec.{ltb, leb, eqb}
 abbrev pub Number : Type 0
 Number = ℕ
 
--- "both numbers 0"
+-- R1.2: the first number
 unfoldable pub firstSeq : Number
 firstSeq = 0
 
--- "The 65,535 limit is ours."
+-- R1.2: the last number
 unfoldable pub lastSeq : Number
 lastSeq = 65_535
 
--- "a left number and a right number (0 to 65,535)"
+-- R2.7: a number that a field can hold
 unfoldable pub isSeq : Number → Bool
 isSeq n = leb n lastSeq
 
+-- R1.2: the next is one more
 unfoldable pub nextSeq : Number → Number
 nextSeq n = n + 1
 
 unfoldable pub same : Number → Number → Bool
 same n m = eqb n m
 
--- a notice is taken "if its number is greater than the left number"
+-- R1.2: the greater number is the newer
 unfoldable pub newer : Number → Number → Bool
 newer n m = ltb m n
 
--- "its right number is below 65,535"
+-- R1.2: every number but the last has a next
 unfoldable pub hasNext : Number → Bool
 hasNext n = ltb n lastSeq
 
--- "right number + 1 .. capped at 65,535"
+-- R1.2: the next, where the last stands for its own
 unfoldable pub cappedNext : Number → Number
 cappedNext n = cond (hasNext n) (nextSeq n) lastSeq

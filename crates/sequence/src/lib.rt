@@ -1,4 +1,4 @@
-// Sequence numbers (paper 01's left and right numbers): made, compared and advanced here and nowhere else.
+// Sequence numbers (R1.2): made, compared and advanced here and nowhere else.
 ghost use mathlib.Core.Path.{_≡_};
 ghost use Rattle.sequence.specs.Sequence.{firstSeq, same, newer, hasNext, cappedNext};
 

@@ -31,7 +31,7 @@ coded-injective a b e = sym (named-coded a) ∙ ap named e ∙ named-coded b
     named-coded BadDigit = refl
     named-coded TooLarge = refl
 
--- ---- what is read says the paper's numbers, by its rule
+-- ---- what is read says refusals 3 and 4, each by its rule
 by-rule : (n v : ℕ) (ok : Bool) (wrong : Serial) → coded wrong ≡ no (plain n) → coded (cond ok (Value v) wrong) ≡ ruled ((n when not ok) ∷ []) no (done v)
 by-rule n v true wrong e = refl
 by-rule n v false wrong e = e

@@ -1,5 +1,5 @@
--- Serials as paper 01 has them: "0 to 99,999,999", "packed BCD, high digits first", "binary, low byte first", and the refusals 3
--- and 4. What is read is a value, or which of the two refusals comes at the serial's turn. Definitions only.
+-- Serials, and the two forms that a script has them in (R1.1, R9.4). What is read is a value, or which of the refusals 3
+-- and 4 comes at the serial's turn. Definitions only.
 use Prim.Native.Nat.{ℕ, _+_, _*_, _/_, _%_, _^_}
 use mathlib.Core.Bool.{Bool, true, _&&_, cond}
 use mathlib.Core.List.{List, [], _∷_, reverse}
@@ -10,18 +10,17 @@ use Rattle.refusal.specs.Rules.{Coded, done, no}
 use Rattle.serial.specs.declared.Serial.{Serial}
 use Rattle.serial.specs.declared.Serial.the-variants.{Value, BadDigit, TooLarge}
 
--- a serial is "0 to 99,999,999"
+-- R1.1: the range of serials
 abbrev pub inRange : ℕ → Bool
 inRange n = leb n 99_999_999
 
--- what a serial says at its turn, in the paper's numbers: 3 "a BCD digit above 9", 4 "a serial above 99,999,999, in binary or handed in as
--- a number"
+-- what a serial says at its turn: refusal 3 of a bad digit, refusal 4 of a value too large
 abbrev pub coded : Serial → Coded ℕ
 coded (Value n) = done n
 coded BadDigit = no (plain 3)
 coded TooLarge = no (plain 4)
 
--- a serial handed in as a number
+-- a serial handed in as a number, which refusal 4 tests
 abbrev pub handedOf : ℕ → Serial
 handedOf n = cond (inRange n) (Value n) TooLarge
 
@@ -30,11 +29,11 @@ abbrev pub positional : ℕ → List ℕ → ℕ
 positional base [] = 0
 positional base (d ∷ ds) = d * base ^ length ds + positional base ds
 
--- "4 bytes binary, low byte first"
+-- R9.4, binary: the lowest byte comes first
 abbrev pub binaryOf : List ℕ → Serial
 binaryOf bytes = handedOf (positional 256 (reverse bytes))
 
--- "4 bytes packed BCD, high digits first": the digits, two to a byte
+-- R9.4, packed BCD: two digits to a byte, the highest first
 abbrev pub digits : List ℕ → List ℕ
 digits [] = []
 digits (byte ∷ bytes) = byte / 16 ∷ byte % 16 ∷ digits bytes

@@ -27,7 +27,7 @@ fn add_node(network: &mut Network, node: Node)
     network.count = count + 1;
 }
 
-// "closes the gap".
+// R6.9: the message at a place is taken, and the later ones move up.
 fn take_message(network: &mut Network, place: u8)
     requires { ⌜ (place < now network .waiting) × (now network .waiting ≤ 64) ⌝ }
     ensures { λ _. ⌜ now (network .exit) ≡ closed (now (network .entry)) place ⌝ }

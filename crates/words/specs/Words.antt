@@ -1,4 +1,4 @@
--- What the printout calls an outcome: paper 01's words. Definitions only.
+-- R9.7: what the printout calls an outcome of section 5 of docs/RULES.md. Definitions only.
 use Prim.Native.Nat.{ℕ}
 use mathlib.Core.List.{List, _++_}
 use Rattle.text.specs.Text.{ascii}

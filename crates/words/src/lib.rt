@@ -1,4 +1,4 @@
-// The words for what a step did, put into a text. A word is put with the space before it and the line end after it, as one constant.
+// The words for what a step did (R9.7), put into a text. A word is put with the space before it and the line end after it, as one constant.
 ghost use Rattle.text.specs.Text.{Put};
 ghost use Rattle.words.specs.Words.{outcomeEnding};
 use node::Outcome;
