@@ -61,15 +61,15 @@ lines ordinal (said ∷ rest) = lineOf ordinal said ++ lines (suc ordinal) rest
 -- what holds after k records
 pub record Made (script : List ℕ) (k : ℕ) : Type 0 where
   pub network : after script k .state ≡ history (scriptCalls script k) .state
-  -- R9.8: T counts what these calls post
+  -- R10.11: T counts what these calls post
   pub posts : after script k .posted ≡ posted empty (scriptCalls script k)
   -- the ring, as of any list of calls
   pub sound : Sound (history (scriptCalls script k))
-  -- the printout so far is the heading and a line for each answer
+  -- R9.7: the printout so far is the heading and a line for each answer
   pub printed : after script k .text ≡ heading ++ lines 1 (answersOf script k)
-  -- none of them is 6: every network of a script is well formed
+  -- R10.11: none of them is 6, since every network of a script is well formed
   pub never-6 : ¬ List·Memᴰ (no (plain 6)) (answersOf script k)
-  -- nor 31, whoever is asked for (R10.10)
+  -- R10.11: nor 31, whoever is asked for
   pub never-31 : ¬ List·Memᴰ (no (plain 31)) (answersOf script k)
   pub found : (start serial : ℕ) → ¬ (ownerOf (after script k .state) start serial ≡ no (plain 31))
 

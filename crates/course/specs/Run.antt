@@ -38,7 +38,7 @@ advanced script p (next asked after) = record {
 abbrev pub stepOf : List ℕ → Progress → Progress
 stepOf script p = advanced script p (readAt script (p .at))
 
--- after so many records; past the last one there is no change
+-- R9.7: after so many records; past the last one there is no change
 abbrev pub after : List ℕ → ℕ → Progress
 after script zero = start
 after script (suc k) = stepOf script (after script k)
@@ -55,6 +55,6 @@ sizeLimit = 65_536
 abbrev pub tooLong : List ℕ
 tooLong = (heading ++ lineOf 0 (no (plain 7))) ++ lastLine 0 0
 
--- a script has no more records than bytes
+-- R9.1, R9.7, R9.8: the whole printout; a script has no more records than bytes
 unfoldable pub printoutOf : List ℕ → List ℕ
 printoutOf script = cond (ltb sizeLimit (length script)) tooLong (closed (after script (length script)))

@@ -1,4 +1,4 @@
-// A network that is well formed, and the same with one thing wrong at a time.
+// A network that is well formed, the same with one thing wrong at a time, and one that is well formed and no ring.
 use network::Network;
 use node::Node;
 use parts::Kind;
@@ -9,18 +9,20 @@ use parts::Status;
 use protocol::Call;
 use protocol::Order;
 
-pub(crate) const FAULTS: u8 = 14;
-
 fn after(network: Network, call: Call) -> Network {
     let called = engine::apply(network, call);
     called.network
 }
 
+// Two nodes, both out.
+fn two() -> Network {
+    let one = after(Network::empty(), Call::Order(Order::Declare(1_000)));
+    after(one, Call::Order(Order::Declare(2_000)))
+}
+
 // Two nodes, of which the second one's join has been granted: a notice and an acknowledgement wait.
 pub(crate) fn sound() -> Network {
-    let one = after(Network::empty(), Call::Order(Order::Declare(1_000)));
-    let two = after(one, Call::Order(Order::Declare(2_000)));
-    let ring = after(two, Call::Order(Order::Create(0)));
+    let ring = after(two(), Call::Order(Order::Create(0)));
     let asked = after(
         ring,
         Call::Order(Order::Join {
@@ -63,61 +65,99 @@ fn linked(key: u32, left: Link, right: Link, rseq: Seq) -> Node {
     }
 }
 
-pub(crate) fn fault(network: Network, which: u8) -> Network {
+// Another node in the place of the first, which is in and has node 1 on its right.
+fn with_first(network: Network, key: u32, right: Link, rseq: Seq) -> Network {
+    with_node(network, 0, linked(key, Link::To(0), right, rseq))
+}
+
+// R2.2: a count past its limit.
+pub(crate) fn too_many_nodes(network: Network) -> Network {
     let mut n = network;
-    match which {
-        // counts past the limits
-        0 => {
-            n.count = 255;
-            n
-        }
-        1 => {
-            n.waiting = 255;
-            n
-        }
-        // places past the counts that are not blank
-        2 => with_node(n, 2, decision::declared(3_000)),
-        3 => with_message(n, 63, 0, Kind::SetRAck { number: 0 }),
-        // a key that is taken, and one out of range
-        4 => with_node(n, 0, linked(2_000, Link::To(0), Link::To(1), Seq::Is(0))),
-        5 => with_node(
-            n,
-            0,
-            linked(100_000_000, Link::To(0), Link::To(1), Seq::Is(0)),
-        ),
-        // nodes that are not declared, in a link and in messages
-        6 => with_node(n, 0, linked(1_000, Link::To(0), Link::To(2), Seq::Is(0))),
-        7 => with_message(n, 0, 2, Kind::SetL { left: 1, number: 1 }),
-        8 => with_message(
-            n,
-            0,
-            0,
-            Kind::SetL {
-                left: 40,
-                number: 1,
-            },
-        ),
-        // a node that is in and has no links, and to which a left notice waits
-        9 => with_node(
-            n,
-            0,
-            linked(1_000, Link::Unlinked, Link::Unlinked, Seq::Is(0)),
-        ),
-        // and one with no right number
-        10 => with_node(n, 0, linked(1_000, Link::To(0), Link::To(1), Seq::Unset)),
-        // two answers to one node, an answer to a node that waits for none, and a request from one that asks nothing
-        11 => with_message(n, 0, 1, Kind::SetRNak),
-        12 => with_message(n, 1, 0, Kind::SetRAck { number: 1 }),
-        13 => with_message(
-            n,
-            1,
-            0,
-            Kind::SetR {
-                new: 0,
-                expected: 1,
-                number: 1,
-            },
-        ),
-        _ => n,
-    }
+    n.count = 255;
+    n
+}
+
+pub(crate) fn too_many_messages(network: Network) -> Network {
+    let mut n = network;
+    n.waiting = 255;
+    n
+}
+
+// R2.3: a place past a count that is not vacant.
+pub(crate) fn node_past_the_count(network: Network) -> Network {
+    with_node(network, 2, decision::declared(3_000))
+}
+
+pub(crate) fn message_past_the_count(network: Network) -> Network {
+    with_message(network, 63, 0, Kind::SetRAck { number: 0 })
+}
+
+// R2.4: a key that another node has, and one out of range.
+pub(crate) fn key_of_another(network: Network) -> Network {
+    with_first(network, 2_000, Link::To(1), Seq::Is(0))
+}
+
+pub(crate) fn key_out_of_range(network: Network) -> Network {
+    with_first(network, 100_000_000, Link::To(1), Seq::Is(0))
+}
+
+// R2.5: a node that is not declared, in a link and in messages.
+pub(crate) fn link_undeclared(network: Network) -> Network {
+    with_first(network, 1_000, Link::To(2), Seq::Is(0))
+}
+
+pub(crate) fn addressee_undeclared(network: Network) -> Network {
+    with_message(network, 0, 2, Kind::SetL { left: 1, number: 1 })
+}
+
+pub(crate) fn left_undeclared(network: Network) -> Network {
+    with_message(
+        network,
+        0,
+        0,
+        Kind::SetL {
+            left: 40,
+            number: 1,
+        },
+    )
+}
+
+// R2.6: a node that is in and has no links, and to which a notice waits; and one with no right number.
+pub(crate) fn links_missing(network: Network) -> Network {
+    with_node(
+        network,
+        0,
+        linked(1_000, Link::Unlinked, Link::Unlinked, Seq::Is(0)),
+    )
+}
+
+pub(crate) fn number_missing(network: Network) -> Network {
+    with_first(network, 1_000, Link::To(1), Seq::Unset)
+}
+
+// R2.7: two answers to one node, an answer to a node that waits for none, and a request from one that asks nothing.
+pub(crate) fn two_answers(network: Network) -> Network {
+    with_message(network, 0, 1, Kind::SetRNak)
+}
+
+pub(crate) fn answer_unasked(network: Network) -> Network {
+    with_message(network, 1, 0, Kind::SetRAck { number: 1 })
+}
+
+pub(crate) fn request_unasked(network: Network) -> Network {
+    with_message(
+        network,
+        1,
+        0,
+        Kind::SetR {
+            new: 0,
+            expected: 1,
+            number: 1,
+        },
+    )
+}
+
+// R2.1: the first of two nodes is in, and its right link leads to the second, which is out and has no links. Its right number is the last.
+pub(crate) fn no_ring() -> Network {
+    with_first(two(), 1_000, Link::To(1), Seq::Is(65_535))
 }

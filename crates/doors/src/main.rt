@@ -1,5 +1,6 @@
-// Hands networks that are not well formed to every public function of the crate `engine`, and counts those that answer 6 and hand the very
-// network back: a well-formed network with one thing wrong at a time, and networks with fields made by chance.
+// Hands networks that are not well formed to every public function of the crate `engine`, its doors, and counts those that answer 6 and hand
+// the very network back (R6.2): a well-formed network with one rule of section 2 broken at a time, and networks with fields made by chance.
+// Then what no script can show of well-formed networks: one that is no ring, and the word of the inserted nodes.
 ghost use Prim.Native.Nat.{_≤_};
 
 mod faults;
@@ -12,6 +13,7 @@ use network::Network;
 use protocol::Answer;
 use protocol::Call;
 use protocol::Order;
+use protocol::Reply;
 
 // Five calls and a drain by value, the same in place, and the two questions.
 const DOORS: u32 = 14;
@@ -87,16 +89,99 @@ fn print(text: &[u8], n: u32) {
     io::write_all(1, b"\n");
 }
 
-fn print_fault(n: u32) {
-    print(b"one thing wrong, doors that refuse it 6: ", n);
+// One rule of well-formedness broken at a time.
+fn by_rule(sound: Network) {
+    print(b"R2.2, 255 nodes: ", refused(faults::too_many_nodes(sound)));
+    print(
+        b"R2.2, 255 messages: ",
+        refused(faults::too_many_messages(sound)),
+    );
+    print(
+        b"R2.3, a node past the count: ",
+        refused(faults::node_past_the_count(sound)),
+    );
+    print(
+        b"R2.3, a message past the count: ",
+        refused(faults::message_past_the_count(sound)),
+    );
+    print(
+        b"R2.4, the key of another node: ",
+        refused(faults::key_of_another(sound)),
+    );
+    print(
+        b"R2.4, a key out of range: ",
+        refused(faults::key_out_of_range(sound)),
+    );
+    print(
+        b"R2.5, a link to an undeclared node: ",
+        refused(faults::link_undeclared(sound)),
+    );
+    print(
+        b"R2.5, a message to an undeclared node: ",
+        refused(faults::addressee_undeclared(sound)),
+    );
+    print(
+        b"R2.5, a notice of an undeclared node: ",
+        refused(faults::left_undeclared(sound)),
+    );
+    print(
+        b"R2.6, a node that is in without links: ",
+        refused(faults::links_missing(sound)),
+    );
+    print(
+        b"R2.6, a node that is in without a right number: ",
+        refused(faults::number_missing(sound)),
+    );
+    print(
+        b"R2.7, two answers to one node: ",
+        refused(faults::two_answers(sound)),
+    );
+    print(
+        b"R2.7, an answer to a node that is in: ",
+        refused(faults::answer_unasked(sound)),
+    );
+    print(
+        b"R2.7, a request from a node that is in: ",
+        refused(faults::request_unasked(sound)),
+    );
 }
 
-fn by_fault(sound: Network) {
-    let mut which: u8 = 0;
-    while which < faults::FAULTS {
-        print_fault(refused(faults::fault(sound, which)));
-        which += 1;
+// The number of the refusal in an answer; 0 where there is none.
+fn number_of(answer: Answer) -> u32 {
+    match answer {
+        Answer::Done(_) => 0,
+        Answer::Refused(refusal) => refusal.number() as u32,
     }
+}
+
+// What no script comes to: a well-formed network that is no ring, on which an owner is not found, and a right number that is the last.
+fn no_ring() {
+    let network = faults::no_ring();
+    let called = engine::apply(network, Call::Order(Order::Leave(0)));
+    let report = called.report;
+    let answer = report.answer;
+    print(b"R2.1, a network that is no ring: ", refused(network));
+    print(
+        b"R7.2, its owner of 2,500, from 0, is refused: ",
+        number_of(engine::owner(network, 0, 2_500)),
+    );
+    print(
+        b"R6.8, a leave of 0, at the last number, is refused: ",
+        number_of(answer),
+    );
+}
+
+// R4.2: the word of the inserted nodes, and its ones.
+fn members(network: Network) {
+    let answer = engine::inserted(network);
+    let Answer::Done(reply) = answer else {
+        return;
+    };
+    let Reply::Inserted { word, size } = reply else {
+        return;
+    };
+    print(b"R4.2, the word of the inserted nodes 0 and 1: ", word);
+    print(b"R4.2, its ones: ", size);
 }
 
 // Of the networks drawn, how many are well formed, and how many others every door refuses.
@@ -124,11 +209,11 @@ fn by_chance() -> Count {
 
 fn main() {
     let sound = faults::sound();
-    print(
-        b"a well-formed network, doors that refuse it: ",
-        refused(sound),
-    );
-    by_fault(sound);
+    print(b"doors that refuse a well-formed network: ", refused(sound));
+    print(b"doors that refuse 6, of all: ", DOORS);
+    by_rule(sound);
+    no_ring();
+    members(sound);
     let count = by_chance();
     print(b"networks made by chance: ", DRAWN);
     print(b"of them well formed: ", count.well_formed);

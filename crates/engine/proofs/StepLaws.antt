@@ -1,5 +1,5 @@
 -- What the network's rules come to after a node's step. A step's own rules come first, and where they let it pass, what it posts is known:
--- so that the rule on room, read off the posts, is refusal 28 as R6.7 to R6.9 have it. Assumes nothing.
+-- so that the rule on room, read off the posts, is refusal 28 as R6.7, R6.8, R6.9 have it. Assumes nothing.
 use mathlib.Core.Path.{_≡_, refl, sym, ap, _∙_}
 use mathlib.Core.Logic.{⊎-elim}
 use mathlib.Core.Bool.{Bool, true, false, not, _&&_, cond, and-true}

@@ -1,4 +1,4 @@
-// Any call on any network (R6.5 to R6.9), by value and where it lies.
+// Any call on any network (R6.5, R6.6, R6.7, R6.8, R6.9), by value and where it lies.
 ghost use mathlib.Core.Path.{_≡_};
 ghost use Rattle.engine.specs.Outcomes.{called, reported, counted, applyOf};
 use crate::Called;

@@ -8,7 +8,7 @@ use Rattle.predicates.specs.Tests.{count}
 use Rattle.parts.specs.declared.Link.{Link}
 use Rattle.parts.specs.declared.Link.the-variants.{Unlinked, To}
 
--- ---- the walk
+-- ---- the walk: R10.5, R10.6 speak of its moves
 -- where a link of s leads; s itself where there is none
 abbrev pub endOf : Link → ℕ → ℕ
 endOf Unlinked s = s

@@ -15,7 +15,7 @@ use Rattle.node.specs.Actions.{setRNak}
 use Rattle.protocol.specs.State.{State, queueLimit, empty as emptyLists, wellFormed as listsAreWellFormed}
 use Rattle.network.specs.declared.Network.{Network}
 
--- ---- R2.2: what a vacant place holds (paper 01: the blank)
+-- ---- R2.3: what a vacant place holds (paper 01: the blank)
 -- a node as it begins (R1.4), with the key 0
 abbrev pub vacantNode : Node
 vacantNode = declaredOf 0
@@ -41,7 +41,7 @@ isVacantMessage m = eqb (m .sender) 0 && (eqb (m .to) 0 && isNak (m .kind))
 abbrev pub live : Network → State
 live n = record { nodes = take (n .count) (n .nodes); messages = take (n .waiting) (n .messages) }
 
--- R2.1, the counts; R2.2, the places past them; the other clauses are said of the lists
+-- R2.2, the counts; R2.3, the places past them; the other clauses are said of the lists
 unfoldable pub wellFormed : Network → Bool
 wellFormed n =
     (leb (n .count) capacity && leb (n .waiting) queueLimit)

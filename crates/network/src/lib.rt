@@ -24,7 +24,7 @@ pub struct Network {
     pub waiting: u8,
 }
 
-// R2.2: what a vacant place holds, of the nodes and of the messages. Constants, so that an empty network is copied and not
+// R2.3: what a vacant place holds, of the nodes and of the messages. Constants, so that an empty network is copied and not
 // made place by place.
 const VACANT_NODE: Node = Node {
     status: Status::Out,

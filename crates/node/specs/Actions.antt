@@ -56,7 +56,7 @@ quiet u o = record { node = u; posts = []; said = done o }
 abbrev pub posting : Node → Message → Outcome → Effect
 posting u m o = record { node = u; posts = m ∷ []; said = done o }
 
--- ---- messages, by their sender, their addressee and the kind's own fields
+-- ---- R1.6: messages, by their sender, their addressee and the kind's own fields
 abbrev pub setR : ℕ → ℕ → ℕ → ℕ → Number → Message
 setR sender to new expected number = record { sender = sender; to = to; kind = SetR new expected number }
 
@@ -69,7 +69,8 @@ setRNak sender to = record { sender = sender; to = to; kind = SetRNak }
 abbrev pub setL : ℕ → ℕ → ℕ → Number → Message
 setL sender to left number = record { sender = sender; to = to; kind = SetL left number }
 
--- ---- a node changed: one setter for its status and one for each link with its number, which leave all other fields as they were
+-- ---- R1.5: a node changed, by one setter for its status and one for each link with its number, which leave all other
+-- fields as they were
 -- R1.5: a change of status leaves the other fields
 abbrev pub withStatus : Status → Node → Node
 withStatus s u = record { status = s; key = u .key; left = u .left; right = u .right; lseq = u .lseq; rseq = u .rseq }
@@ -89,6 +90,7 @@ createRules me u = (6 when not (wellFormed me u)) ∷ (23 when not (isOut (u .st
 abbrev pub created : ℕ → Node → Node
 created me u = withStatus In (withRight (To me) (Is firstSeq) (withLeft (To me) firstSeq u))
 
+-- R5.1: with no message
 abbrev pub creating : ℕ → Node → Effect
 creating me u = quiet (created me u) Created
 
@@ -100,6 +102,7 @@ createOf me u = ruled (createRules me u) (refused u) (creating me u)
 abbrev pub joinOwnRules : Node → Peer → Peer → List Rule
 joinOwnRules u p q = (23 when not (isOut (u .status))) ∷ (24 when not (between (p .key) (q .key) (u .key))) ∷ []
 
+-- R6.4: 6 comes before them
 abbrev pub joinRules : ℕ → Node → Peer → Peer → List Rule
 joinRules me u p q = (6 when not (wellFormed me u && (peerFits p && peerFits q))) ∷ joinOwnRules u p q
 
@@ -111,10 +114,11 @@ joining u p q = withStatus Ins (withRight (To (q .number)) (u .rseq) (withLeft (
 abbrev pub joinRequest : ℕ → Node → Peer → Peer → Message
 joinRequest me u p q = setR me (p .number) me (q .number) (u .lseq)
 
+-- R5.2: the joiner waits
 abbrev pub asking : ℕ → Node → Peer → Peer → Effect
 asking me u p q = posting (joining u p q) (joinRequest me u p q) Waiting
 
--- past the test of node and neighbours; and with it
+-- R6.1: past the test of node and neighbours; and with it
 unfoldable pub joinUnchecked : ℕ → Node → Peer → Peer → Effect
 joinUnchecked me u p q = ruled (joinOwnRules u p q) (refused u) (asking me u p q)
 
@@ -130,6 +134,7 @@ alone me u = linksTo (u .right) me
 abbrev pub leaveOwnRules : ℕ → Node → List Rule
 leaveOwnRules me u = (26 when not (isIn (u .status))) ∷ (27 when not (alone me u) && not (hasNext (seqOf (u .rseq)))) ∷ []
 
+-- R6.4: 6 comes before them
 abbrev pub leaveRules : ℕ → Node → List Rule
 leaveRules me u = (6 when not (wellFormed me u)) ∷ leaveOwnRules me u
 
@@ -144,7 +149,7 @@ leaving me u =
     (quiet (withStatus Out u) LeftAlone)
     (posting (withStatus Del u) (leaveRequest me u (nextSeq (seqOf (u .rseq)))) Waiting)
 
--- past the test of the node; and with it
+-- R6.1: past the test of the node; and with it
 unfoldable pub leaveUnchecked : ℕ → Node → Effect
 leaveUnchecked me u = ruled (leaveOwnRules me u) (refused u) (leaving me u)
 
@@ -178,6 +183,7 @@ ack me p v = setRAck me v (cappedNext (seqOf (p .rseq)))
 abbrev pub relinked : Node → ℕ → Number → Node
 relinked p new number = withRight (To new) (Is number) p
 
+-- R5.6, R5.7, R5.8: the notice is posted first, and then the answer
 abbrev pub granting : Node → Message → Message → Effect
 granting p notice answer = record { node = p; posts = notice ∷ answer ∷ []; said = done Granted }
 
@@ -185,7 +191,7 @@ granting p notice answer = record { node = p; posts = notice ∷ answer ∷ []; 
 abbrev pub denied : ℕ → Node → ℕ → Effect
 denied me p v = posting p (setRNak me v) Denied
 
--- R5.5 to R5.9
+-- R5.5, R5.6, R5.7, R5.8, R5.9
 abbrev pub onSetR : ℕ → Node → ℕ → ℕ → ℕ → Number → Effect
 onSetR me p v new expected number =
     cond (grants p v new expected)
@@ -205,7 +211,7 @@ onSetRAck In u number = quiet u Dropped
 onSetRAck Del u number = quiet (withStatus Out u) Gone
 
 -- ---- SetRNak
--- R5.11: a joiner stays out, a leaver stays in; R5.13, R5.14: the others drop it
+-- R5.11: a joiner is out again, a leaver is in again; R5.13, R5.14: the others drop it
 abbrev pub onSetRNak : Status → Node → Effect
 onSetRNak Out u = quiet u Dropped
 onSetRNak Ins u = quiet (withStatus Out u) JoinDenied
@@ -222,6 +228,7 @@ abbrev pub onSetL : Node → ℕ → Number → Effect
 onSetL u left number = cond (newer number (u .lseq)) (quiet (leftSet u left number) LeftSet) (quiet u LeftOld)
 
 -- ---- receiving a message
+-- what a node that is not out does with each kind
 abbrev pub onKind : ℕ → Node → ℕ → Kind → Effect
 onKind me u v (SetR new expected number) = onSetR me u v new expected number
 onKind me u v (SetRAck number) = onSetRAck (u .status) u number

@@ -18,22 +18,22 @@ abbrev pub declaredOf : ℕ → Node
 declaredOf key = record { status = Out; key = key; left = Unlinked; right = Unlinked; lseq = firstSeq; rseq = Unset }
 
 -- ---- well-formedness among the first `count` nodes
--- R2.3 to R2.5: its key, its links and its right number
+-- R2.4, R2.5, R2.6: its key, its links and its right number
 unfoldable pub nodeFits : ℕ → Node → Bool
 nodeFits count u = inRange (u .key) && linksFit count (u .status) (u .left) (u .right) (u .rseq)
 
--- ---- R2.9: what is handed in to a single step, which knows no count but the limit (R1.7)
+-- ---- R6.12: what is handed in to a single step, which knows no count but the limit (R1.7)
 abbrev pub capacity : ℕ
 capacity = 32
 
--- R2.9: the node, with its own number
+-- R6.12: the node, with its own number; R2.8 is in the fields' type
 unfoldable pub wellFormed : ℕ → Node → Bool
 wellFormed me u = ltb me capacity && nodeFits capacity u
 
--- R2.9: a message, which must be for this node
+-- R6.12: a message, which must be for this node
 unfoldable pub deliverable : ℕ → Message → Bool
 deliverable me m = eqb (m .to) me && messageFits capacity m
 
--- R2.9: a neighbour
+-- R6.12: a neighbour
 unfoldable pub peerFits : Peer → Bool
 peerFits p = ltb (p .number) capacity && inRange (p .key)

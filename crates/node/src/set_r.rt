@@ -1,4 +1,4 @@
-// SetR (R5.5 to R5.9): a node grants or denies a request to change its right link.
+// SetR (R5.5, R5.6, R5.7, R5.8, R5.9): a node grants or denies a request to change its right link.
 ghost use mathlib.Core.Path.{_≡_};
 ghost use Rattle.node.specs.Actions.{effect, grants, wouldGrant, onSetR};
 use crate::Node;

@@ -1,4 +1,4 @@
-// The tests of what is handed in to a step (R2.9).
+// The tests of what is handed in to a step (R6.12).
 ghost use mathlib.Core.Path.{_≡_};
 ghost use Rattle.node.specs.Shape.{nodeFits, wellFormed, deliverable, peerFits};
 use crate::Node;

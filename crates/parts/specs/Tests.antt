@@ -26,7 +26,7 @@ isIn Ins = false
 isIn In = true
 isIn Del = false
 
--- R2.5: of such a node a right number is asked
+-- R2.6: of such a node a right number is asked
 abbrev pub isInOrDel : Status → Bool
 isInOrDel Out = false
 isInOrDel Ins = false
@@ -88,7 +88,7 @@ isNotice (SetL left number) = true
 abbrev pub isAnswer : Kind → Bool
 isAnswer kind = isAck kind || isNak kind
 
--- ---- R2.7: of a right number, and of the number that a message carries
+-- ---- R2.8: of a right number, and of the number that a message carries
 abbrev pub seqFits : Seq → Bool
 seqFits Unset = true
 seqFits (Is n) = isSeq n

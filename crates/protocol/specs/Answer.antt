@@ -19,6 +19,7 @@ abbrev pub accepted : Coded Reply → Bool
 accepted (done r) = true
 accepted (no r) = false
 
+-- R10.2: a SetR was granted
 abbrev pub isGranted : Outcome → Bool
 isGranted Created = false
 isGranted Waiting = false
@@ -33,6 +34,7 @@ isGranted LeftSet = false
 isGranted LeftOld = false
 isGranted Dropped = false
 
+-- R10.2: a node left alone
 abbrev pub isLeftAlone : Outcome → Bool
 isLeftAlone Created = false
 isLeftAlone Waiting = false

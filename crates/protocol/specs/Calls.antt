@@ -38,7 +38,8 @@ abbrev pub stepped : Coded Outcome → Coded Reply
 stepped (done o) = done (Stepped o)
 stepped (no r) = no r
 
--- R6.9, node u steps, while `messages` wait: it stands in its place as the step leaves it, and its posts stand at the end
+-- R6.6, R6.7, R6.8, R6.9, node u steps, while `messages` wait: it stands in its place as the step leaves it, and its posts
+-- stand at the end
 abbrev pub commit : State → ℕ → List Message → Effect → Result
 commit s u messages e = record {
   state = record { nodes = set (s .nodes) u (e .node); messages = messages ++ e .posts };
@@ -46,10 +47,12 @@ commit s u messages e = record {
   said = stepped (e .said);
 }
 
+-- refusal 28: 64 messages wait
 abbrev pub isFull : State → Bool
 isFull s = not (ltb (length (s .messages)) queueLimit)
 
 -- ---- declare
+-- refusal 21: a node has this key
 abbrev pub keyIsTaken : State → ℕ → Bool
 keyIsTaken s key = not (everyBelow (length (s .nodes)) (λ v. not (eqb (keyAt s v) key)))
 
@@ -71,6 +74,7 @@ declaring s key = record {
 }
 
 -- ---- create
+-- refusal 22: whether there is none that is not out
 abbrev pub allOut : State → Bool
 allOut s = everyBelow (length (s .nodes)) (λ v. isOut (statusAt s v))
 
@@ -83,6 +87,7 @@ createRules s u =
     ∷ (25 when noticeWaits s u)
     ∷ []
 
+-- R6.6: the node's own creation
 abbrev pub creating : State → ℕ → Result
 creating s u = commit s u (s .messages) (createOf u (nodeAt s u))
 
@@ -103,6 +108,7 @@ joinRules s u p q =
     ∷ (28 when isFull s)
     ∷ []
 
+-- R6.7: the node's own join
 abbrev pub joining : State → ℕ → ℕ → ℕ → Result
 joining s u p q = commit s u (s .messages) (joinOf u (nodeAt s u) (peerAt s p) (peerAt s q))
 
@@ -116,6 +122,7 @@ leaveRules s u =
     ++ (28 when isFull s && not (alone u (nodeAt s u)))
     ∷ []
 
+-- R6.8: the node's own leave
 abbrev pub leaving : State → ℕ → Result
 leaving s u = commit s u (s .messages) (leaveOf u (nodeAt s u))
 
@@ -140,6 +147,7 @@ deliverRules s place =
     ∷ (29 when not (ltb place (length (s .messages))))
     ∷ []
 
+-- what the addressee does: it never says 6 on a well-formed network (`received`, `proofs/Cases.antt`)
 abbrev pub receiving : State → Message → Effect
 receiving s m = receiveOf (m .to) (nodeAt s (m .to)) m
 
@@ -147,7 +155,7 @@ receiving s m = receiveOf (m .to) (nodeAt s (m .to)) m
 abbrev pub delivering : State → ℕ → Result
 delivering s place = commit s (messageAt s place .to) (without place (s .messages)) (receiving s (messageAt s place))
 
--- ---- any call
+-- ---- any call: R6.3, its rules stand in this order
 abbrev pub rulesOf : State → Call → List Rule
 rulesOf s (Order (Declare key)) = declareRules s key
 rulesOf s (Order (Create u)) = createRules s u

@@ -22,11 +22,11 @@ abbrev pub Inserted : State → ℕ → Type 0
 Inserted s u = T (inserted s u)
 
 -- ---- deliveries
--- a delivery at this place is not refused
+-- R10.8: a delivery at this place is not refused
 abbrev pub Delivers : State → ℕ → Type 0
 Delivers s place = T (accepted (applyOf s (Deliver place) .said))
 
--- of deliveries at these places, one after the other, how many are not refused
+-- R10.9: of deliveries at these places, one after the other with nothing between them, how many are not refused
 abbrev pub delivered : State → List ℕ → ℕ
 delivered s [] = 0
 delivered s (place ∷ places) = bit (accepted (applyOf s (Deliver place) .said)) + delivered (applyOf s (Deliver place) .state) places
@@ -42,7 +42,7 @@ pub record Lively (s : State) : Type 0 where
   -- R10.9: of any deliveries that may follow, at whichever places, no more than the load are not refused
   pub bound : (places : List ℕ) → delivered s places ≤ load (s .messages)
 
--- each call leaves a well-formed network, and such a network is lively
+-- R10.13: each call leaves a well-formed network, and such a network is lively
 pub record Steady (s : State) : Type 0 where
   pub kept : (call : Call) → T (wellFormed (applyOf s call .state))
   pub lively : Lively s

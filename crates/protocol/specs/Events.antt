@@ -19,19 +19,19 @@ pub data Event : Type 0 where
   stays : Event
   -- u is the first
   founded : (u : ℕ) → Event
-  -- v was let in after p
+  -- v was let in by p, behind which it now stands
   admitted : (v p : ℕ) → Event
-  -- v was released to p
+  -- v was released by p, whose right link is now what v's was
   released : (v p : ℕ) → Event
   -- u was the last, and went alone
   emptied : (u : ℕ) → Event
 
--- R10.2, a SetR granted by its delivery: where it asked for a join, its sender is let in after the node that it is for, and
--- else released to it
+-- R10.2, a SetR granted by its delivery: where it asked for a join, its sender is let in by the node that it is for, and
+-- else released by it
 abbrev pub grantOf : (ℕ → Bool) → Message → Event
 grantOf joins m = cond (joins (m .sender)) (admitted (m .sender) (m .to)) (released (m .sender) (m .to))
 
--- what a call with this answer did; `joins` says of whom the last join or leave that was not refused was a join
+-- R10.3, what a call with this answer did; `joins` says of whom the last join or leave that was not refused was a join
 abbrev pub eventOf : State → (ℕ → Bool) → Call → Coded Reply → Event
 eventOf s joins (Order (Declare key)) said = stays
 eventOf s joins (Order (Create u)) said = cond (accepted said) (founded u) stays

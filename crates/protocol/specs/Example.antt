@@ -1,4 +1,4 @@
--- Paper 01's example script as a list of calls, and the answers that it must have; and a longer list, in which leaves are
+-- R9.10: 01's example script as a list of calls, and the answers that it must have; and a longer list, in which leaves are
 -- granted and a notice comes late. `proofs/Example.antt` shows by computation that the definitions give these answers.
 -- Definitions only.
 use mathlib.Core.List.{List, [], _∷_}

@@ -45,7 +45,7 @@ pub record FindsOwner (s : State) (start serial : ℕ) (said : Coded Reply) : Ty
   -- and no fewer hops do
   pub first : (k : ℕ) → k < hops → after (rightAt s) start k ≢ node
 
--- R7.1, on a network that some list of calls makes, from an inserted start and for a serial in range
+-- R7.4, on a network that some list of calls makes, from an inserted start and for a serial in range
 abbrev pub OwnerClaim : Type 0
 OwnerClaim = (calls : List Call) (start serial : ℕ) → Inserted (history calls .state) start → T (inRange serial)
     → FindsOwner (history calls .state) start serial (ownerOf (history calls .state) start serial)
@@ -81,6 +81,6 @@ abbrev pub remaining : State → Call → Coded Reply → List Message
 remaining s (Order order) said = s .messages
 remaining s (Deliver place) said = cond (accepted said) (without place (s .messages)) (s .messages)
 
--- R6.9, of every network and call: what is posted stands behind these, and nothing else does
+-- R6.7, R6.8, R6.9, of every network and call: what is posted stands behind these, and nothing else does
 abbrev pub PostsClaim : Type 0
 PostsClaim = (s : State) (call : Call) → applyOf s call .state .messages ≡ remaining s call (applyOf s call .said) ++ applyOf s call .posts

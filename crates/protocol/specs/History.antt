@@ -24,6 +24,7 @@ pub record History : Type 0 where
 abbrev pub start : History
 start = record { state = empty; told = λ u. false; joins = λ u. false }
 
+-- R10.2: what a node asked for last, where it was not refused
 abbrev pub joinsAfter : History → Call → Coded Reply → ℕ → Bool
 joinsAfter h (Order (Declare key)) said = h .joins
 joinsAfter h (Order (Create u)) said = h .joins
@@ -31,7 +32,7 @@ joinsAfter h (Order (Join u p q)) said = cond (accepted said) (put (h .joins) u 
 joinsAfter h (Order (Leave u)) said = cond (accepted said) (put (h .joins) u false) (h .joins)
 joinsAfter h (Deliver place) said = h .joins
 
--- what a call does to the ring after this list
+-- R10.3: what a call does to the ring after this list
 abbrev pub happened : History → Call → Event
 happened h call = eventOf (h .state) (h .joins) call (applyOf (h .state) call .said)
 
@@ -50,7 +51,7 @@ run h (call ∷ calls) = run (advanced h call) calls
 abbrev pub history : List Call → History
 history calls = run start calls
 
--- how many messages calls post, one after the other
+-- R10.11: how many messages calls post, one after the other
 abbrev pub posted : State → List Call → ℕ
 posted s [] = 0
 posted s (call ∷ calls) = length (applyOf s call .posts) + posted (applyOf s call .state) calls

@@ -20,16 +20,16 @@ use Rattle.protocol.specs.State.{State, declared, keyAt, rightAt, wellFo
 abbrev pub insertedWord : State → ℕ
 insertedWord s = wordBelow (length (s .nodes)) (inserted s)
 
--- R4.2: how many are inserted
+-- R4.2: how many are inserted, which is the number of the word's ones (`size-is-ones`, `proofs/Members.antt`)
 abbrev pub insertedCount : State → ℕ
 insertedCount s = countBelow (length (s .nodes)) (inserted s)
 
--- R6.11
+-- R6.11: the word and how many they are, or 6
 unfoldable pub insertedOf : State → Coded Reply
 insertedOf s = ruled ((6 when not (wellFormed s)) ∷ []) no (done (Inserted (insertedWord s) (insertedCount s)))
 
 -- ---- the owner of a serial
--- where a walk to an owner ends: at a node, with the hops made, or nowhere
+-- R7.1, R7.2, where a walk to an owner ends: at a node, with the hops made, or nowhere
 pub data Walk : Type 0 where
   found : ℕ → ℕ → Walk
   lost : Walk

@@ -30,6 +30,7 @@ empty = record { nodes = []; messages = [] }
 abbrev pub queueLimit : ℕ
 queueLimit = 64
 
+-- refusal 5 asks for it
 abbrev pub declared : State → ℕ → Bool
 declared s u = ltb u (length (s .nodes))
 
@@ -50,14 +51,15 @@ abbrev pub rightAt : State → ℕ → Link
 rightAt s u = nodeAt s u .right
 
 -- ---- whom a message concerns
+-- R4.1 asks for a SetRAck addressed to a node
 abbrev pub isAckTo : ℕ → Message → Bool
 isAckTo u m = isAck (m .kind) && eqb (m .to) u
 
--- a notice to a node is a SetL addressed to it
+-- refusal 25 and R10.7 ask for a SetL addressed to a node
 abbrev pub isNoticeTo : ℕ → Message → Bool
 isNoticeTo u m = isNotice (m .kind) && eqb (m .to) u
 
--- an exchange of a node is a SetR from it or an answer to it
+-- R2.7: an exchange of a node is a SetR from it or an answer to it
 abbrev pub isExchangeOf : ℕ → Message → Bool
 isExchangeOf u m = (isRequest (m .kind) && eqb (m .sender) u) || (isAnswer (m .kind) && eqb (m .to) u)
 
@@ -68,18 +70,18 @@ abbrev pub noticeWaits : State → ℕ → Bool
 noticeWaits s u = any (isNoticeTo u) (s .messages)
 
 -- ---- well-formedness
--- R2.3: the key of a node is not that of a node before it
+-- R2.4: the key of a node is not that of a node before it
 abbrev pub keyIsNew : State → ℕ → Bool
 keyIsNew s u = everyBelow u (λ v. not (eqb (keyAt s v) (keyAt s u)))
 
--- R2.6: how many exchanges a node of this status may have
+-- R2.7: how many exchanges a node of this status may have
 abbrev pub exchanges : Status → ℕ
 exchanges Out = 0
 exchanges Ins = 1
 exchanges In = 0
 exchanges Del = 1
 
--- what is asked of one node: R2.3 to R2.5, that it fits among the nodes declared; R2.3, that its key is its own; R2.6, that
+-- what is asked of one node: R2.4, R2.5, R2.6, that it fits among the nodes declared; R2.4, that its key is its own; R2.7, that
 -- it has no more exchanges than its status allows
 abbrev pub nodeIsWellFormed : State → ℕ → Bool
 nodeIsWellFormed s u =
@@ -87,15 +89,15 @@ nodeIsWellFormed s u =
     && (keyIsNew s u
     && leb (count (isExchangeOf u) (s .messages)) (exchanges (statusAt s u)))
 
--- R2.1, the limits; R2.3 to R2.6, each node; R2.4, each message. R2.2 speaks of what lies past the counts, which is no part
--- of these lists. R2.7 is in the fields' type, and stands apart, below. No clause asks for a ring (R2.8).
+-- R2.2, the limits; R2.4, R2.5, R2.6, R2.7, each node; R2.5, each message. R2.3 speaks of what lies past the counts, which is no part
+-- of these lists. R2.8 is in the fields' type, and stands apart, below. No clause asks for a ring (R2.1).
 unfoldable pub wellFormed : State → Bool
 wellFormed s =
     (leb (length (s .nodes)) capacity && leb (length (s .messages)) queueLimit)
     && (everyBelow (length (s .nodes)) (nodeIsWellFormed s)
     && every (messageFits (length (s .nodes))) (s .messages))
 
--- ---- R2.7: what the fields of nodes and messages can hold
+-- ---- R2.8: what the fields of nodes and messages can hold
 unfoldable pub numbersFit : State → Bool
 numbersFit s =
     everyBelow (length (s .nodes)) (λ u. isSeq (nodeAt s u .lseq) && seqFits (nodeAt s u .rseq))

@@ -8,7 +8,7 @@ use Rattle.refusal.specs.declared.Refusal.the-variants.{UnknownMark, Cut
 abbrev pub code : Refusal → ℕ
 -- from the input
 code UnknownMark = 1  -- two bytes that are no mark
-code CutShort = 2  -- a record without all its bytes
+code CutShort = 2  -- a record without all its bytes, or one byte of a mark
 code BadDigit = 3  -- a packed serial with a digit above 9
 code SerialTooLarge = 4  -- a binary serial, or one handed in as a number, above 99,999,999
 code Undeclared = 5  -- a number that names no declared node
@@ -17,8 +17,8 @@ code ScriptTooLong = 7  -- a script of more than 65,536 bytes
 -- from the state
 code NetworkFull = 20  -- declare: there are 32 nodes
 code KeyTaken = 21  -- declare: a node has this key
-code NotAllOut = 22  -- create: a node is not out
-code NotOut = 23  -- join: the node is not out
+code NotAllOut = 22  -- create: some node is not out
+code NotOut = 23  -- join, and a single node's create: the node is not out
 code NotBetween = 24  -- join: the key is not between those of left and right
 code NoticeWaiting = 25  -- create, join: a SetL to the node waits
 code NotIn = 26  -- leave: the node is not in

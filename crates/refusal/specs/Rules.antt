@@ -27,7 +27,7 @@ abbrev pub first : List Rule → Option Reason
 first [] = none
 first (rule r refuses ∷ rules) = cond refuses (some r) (first rules)
 
--- what the code's check says
+-- R11.3: what the code's check says
 abbrev pub checked : Check → Option Reason
 checked Clear = none
 checked (Refuse r) = some (reason r)
@@ -37,5 +37,6 @@ abbrev pub unlessRefused : {B : Type 0} → Option Reason → (Reason → B) →
 unlessRefused none refused accepted = accepted
 unlessRefused (some r) refused accepted = refused r
 
+-- R6.1: what comes of a call with these rules
 abbrev pub ruled : {B : Type 0} → List Rule → (Reason → B) → B → B
 ruled rules refused accepted = unlessRefused (first rules) refused accepted

@@ -1,4 +1,4 @@
--- What is read of paper 01's example script, and of single records for the rules R9.2 to R9.4 and the refusals 1 to 4. Each
+-- What is read of paper 01's example script, and of single records for the rules R9.2, R9.3, R9.4 and the refusals 1 to 4. Each
 -- computes.
 -- Assumes nothing.
 use Prim.Native.Nat.{ℕ, zero, suc}

@@ -1,4 +1,4 @@
--- A script, record by record: a mark of two bytes, then the fields (R9.2 to R9.4). What is read at a cursor is a record with
+-- A script, record by record: a mark of two bytes, then the fields (R9.2, R9.3, R9.4). What is read at a cursor is a record with
 -- the cursor after it, the end of the script, or a refusal that stops the reading. Definitions only.
 use Prim.Native.Nat.{ℕ, _+_}
 use Prim.Native.Char.{code as byte}
@@ -61,7 +61,7 @@ sizeOf Drain = 2
 abbrev pub four : List ℕ → ℕ → List ℕ
 four fields i = getD fields i 0 ∷ getD fields (i + 1) 0 ∷ getD fields (i + 2) 0 ∷ getD fields (i + 3) 0 ∷ []
 
--- R9.2 to R9.4: the record that the fields make; a serial in it is a number, or the refusal that comes at its turn
+-- R9.2, R9.3, R9.4: the record that the fields make; a serial in it is a number, or the refusal that comes at its turn
 abbrev pub recordOf : Mark → List ℕ → Record
 recordOf PackedDeclare fields = DeclareRecord (packedOf (four fields 0))
 recordOf BinaryDeclare fields = DeclareRecord (binaryOf (four fields 0))

@@ -1,4 +1,4 @@
-// Reading a script (R9.2 to R9.5): the record at a cursor, for every slice of bytes and every cursor. A record's serial is read in its form, and stands
+// Reading a script (R9.2, R9.3, R9.4, R9.5): the record at a cursor, for every slice of bytes and every cursor. A record's serial is read in its form, and stands
 // in the record as a number or as the refusal that comes at the serial's turn, after those of the fields before it.
 ghost use mathlib.Core.Path.{_≡_};
 ghost use Prim.Native.Nat.{_<_};

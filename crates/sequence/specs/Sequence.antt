@@ -15,11 +15,11 @@ firstSeq = 0
 unfoldable pub lastSeq : Number
 lastSeq = 65_535
 
--- R2.7: a number that a field can hold
+-- R2.8: a number that a field can hold
 unfoldable pub isSeq : Number → Bool
 isSeq n = leb n lastSeq
 
--- R1.2: the next is one more
+-- R1.2: the next is one more; it is asked only of numbers that have one
 unfoldable pub nextSeq : Number → Number
 nextSeq n = n + 1
 

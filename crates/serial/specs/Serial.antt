@@ -38,9 +38,11 @@ abbrev pub digits : List ℕ → List ℕ
 digits [] = []
 digits (byte ∷ bytes) = byte / 16 ∷ byte % 16 ∷ digits bytes
 
+-- refusal 3: whether no digit is above 9
 abbrev pub allDecimal : List ℕ → Bool
 allDecimal [] = true
 allDecimal (d ∷ ds) = leb d 9 && allDecimal ds
 
+-- R9.4, refusal 3: the value of the digits, or a bad one among them
 abbrev pub packedOf : List ℕ → Serial
 packedOf bytes = cond (allDecimal (digits bytes)) (Value (positional 10 (digits bytes))) BadDigit
