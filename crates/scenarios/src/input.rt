@@ -2,30 +2,35 @@
 ghost use mathlib.Core.Path.{_≡_};
 ghost use lib.ListN.{length};
 use crate::show;
+use model::sheet::Sheet;
 
-pub(crate) fn marks() {
-    show(b"the empty script", b"");
+pub(crate) fn marks(run: &mut Sheet) {
+    show(run, b"the empty script", b"");
     show(
+        run,
         b"no 1: an unknown mark ends the reading",
         b"BC\x00\x00\x10\x00\
           XX\
           BC\x00\x00\x20\x00",
     );
-    show(b"no 1: a mark in lower case", b"bc\x00\x00\x10\x00");
+    show(run, b"no 1: a mark in lower case", b"bc\x00\x00\x10\x00");
     show(
+        run,
         b"no 2: one byte of a mark",
         b"BC\x00\x00\x10\x00\
           B",
     );
     show(
+        run,
         b"no 2: a record without its last byte",
         b"BC\x00\x00\x10\x00\
           BC\x00\x00\x20",
     );
 }
 
-pub(crate) fn fields() {
+pub(crate) fn fields(run: &mut Sheet) {
     show(
+        run,
         b"no 3: a digit above 9",
         b"BC\xa0\x00\x00\x00\
           BC\x00\x00\x00\x0a\
@@ -35,6 +40,7 @@ pub(crate) fn fields() {
           OC\x00\x00\x00\x00\x09",
     );
     show(
+        run,
         b"no 4: a serial above 99,999,999",
         b"BN\x00\xe1\xf5\x05\
           BN\xff\xe0\xf5\x05\
@@ -44,6 +50,7 @@ pub(crate) fn fields() {
     );
     // Each field that names a node, and a question with a digit above 9 as well: the start comes first.
     show(
+        run,
         b"no 5: node 2 is not declared",
         b"BC\x00\x00\x10\x00\
           BC\x00\x00\x20\x00\
@@ -67,11 +74,11 @@ fn long_buffer() -> [u8; 65537]
 }
 
 // Both scripts begin with a declaration and go on with zeros, which are no mark.
-pub(crate) fn sizes() {
+pub(crate) fn sizes(run: &mut Sheet) {
     let mut too_long = long_buffer();
     text::append(&mut too_long, 0, b"BC\x00\x00\x10\x00");
-    show(b"no 7: 65,537 bytes", &too_long);
+    show(run, b"no 7: 65,537 bytes", &too_long);
     let mut longest = io::large_buffer();
     text::append(&mut longest, 0, b"BC\x00\x00\x10\x00");
-    show(b"65,536 bytes are read", &longest);
+    show(run, b"65,536 bytes are read", &longest);
 }

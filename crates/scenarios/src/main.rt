@@ -9,24 +9,62 @@ mod input;
 mod sheets;
 mod state;
 
-pub(crate) fn show(title: &[u8], script: &[u8]) {
-    let mut text = [0u8; 1048576];
+use model::printing::first_difference;
+use model::sheet::*;
+use model::text::Page;
+
+// The sheet of the second implementation serves all scripts. In a row that it leaves alone stand how many scripts were run, and how many differed.
+const RUN: usize = 16;
+
+const SCRIPTS: usize = 0;
+
+const DIFFERENT: usize = 1;
+
+// Counts a script, and says where its printouts differ, if they do.
+fn enter(run: &mut Sheet, place: usize) {
+    add(run, RUN, SCRIPTS, 1);
+    if place > 0 {
+        add(run, RUN, DIFFERENT, 1);
+        io::write_all(
+            1,
+            b"== differs from the second implementation, first at byte ",
+        );
+        io::print_decimal(1, place as u64);
+        io::write_all(1, b"\n");
+    }
+}
+
+// Runs a script through both implementations, and writes its title and the printout of the first.
+pub(crate) fn show(run: &mut Sheet, title: &[u8], script: &[u8]) {
+    let mut text: Page = [0u8; 1048576];
     let used = engine::printout(script, &mut text);
     io::write_all(1, b"== ");
     io::write_all(1, title);
     io::write_all(1, b"\n");
     io::write_all(1, &text[..used]);
+    let place = first_difference(run, script, &text, used);
+    enter(run, place);
+}
+
+fn summary(run: &Sheet) {
+    io::write_all(1, b"== ");
+    io::print_decimal(1, get(run, RUN, SCRIPTS) as u64);
+    io::write_all(1, b" scripts, ");
+    io::print_decimal(1, get(run, RUN, DIFFERENT) as u64);
+    io::write_all(1, b" differ from the second implementation\n");
 }
 
 fn main() {
-    fitter::cases();
-    input::marks();
-    input::fields();
-    input::sizes();
-    state::orders();
-    state::full_queue();
-    state::deliveries_and_questions();
-    sheets::wrong_serial_form();
-    sheets::join_and_leave();
-    sheets::four_at_once();
+    let mut run: Sheet = [0usize; 4096];
+    fitter::cases(&mut run);
+    input::marks(&mut run);
+    input::fields(&mut run);
+    input::sizes(&mut run);
+    state::orders(&mut run);
+    state::full_queue(&mut run);
+    state::deliveries_and_questions(&mut run);
+    sheets::wrong_serial_form(&mut run);
+    sheets::join_and_leave(&mut run);
+    sheets::four_at_once(&mut run);
+    summary(&run);
 }

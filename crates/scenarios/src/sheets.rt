@@ -1,9 +1,11 @@
 // Three of the example sheets of the folder `examples`, one record to a line. There each record has a comment that says what it does, and
 // beside each sheet stands its printout, which is the same.
 use crate::show;
+use model::sheet::Sheet;
 
-pub(crate) fn wrong_serial_form() {
+pub(crate) fn wrong_serial_form(run: &mut Sheet) {
     show(
+        run,
         b"wrong-serial-form",
         b"BC\x00\x00\x12\x34\
           BN\x00\x00\x12\x34\
@@ -31,8 +33,9 @@ pub(crate) fn wrong_serial_form() {
     );
 }
 
-pub(crate) fn join_and_leave() {
+pub(crate) fn join_and_leave(run: &mut Sheet) {
     show(
+        run,
         b"join-and-leave",
         b"BC\x00\x00\x10\x00\
           BC\x00\x00\x20\x00\
@@ -61,8 +64,9 @@ pub(crate) fn join_and_leave() {
     );
 }
 
-pub(crate) fn four_at_once() {
+pub(crate) fn four_at_once(run: &mut Sheet) {
     show(
+        run,
         b"four-at-once",
         b"BC\x00\x00\x10\x00\
           BC\x00\x00\x20\x00\

@@ -1,15 +1,18 @@
 // The refusals from the state; 20 is among the fitter's cases. After each of them a later record is done.
 use crate::crowd;
 use crate::show;
+use model::sheet::Sheet;
 
-pub(crate) fn orders() {
+pub(crate) fn orders(run: &mut Sheet) {
     show(
+        run,
         b"no 21: a key that is taken",
         b"BC\x00\x00\x10\x00\
           BN\xe8\x03\x00\x00\
           BC\x00\x00\x20\x00",
     );
     show(
+        run,
         b"no 22: a creation while a node is not out",
         b"BC\x00\x00\x10\x00\
           BC\x00\x00\x20\x00\
@@ -21,6 +24,7 @@ pub(crate) fn orders() {
     );
     // Node 0 is in, and node 1 is joining already.
     show(
+        run,
         b"no 23: a join of a node that is not out",
         b"BC\x00\x00\x10\x00\
           BC\x00\x00\x20\x00\
@@ -32,6 +36,7 @@ pub(crate) fn orders() {
     );
     // The key of node 2 is above both, or is one of the two.
     show(
+        run,
         b"no 24: a join whose key is not between",
         b"BC\x00\x00\x10\x00\
           BC\x00\x00\x20\x00\
@@ -43,6 +48,7 @@ pub(crate) fn orders() {
     );
     // Node 1 joins and leaves, and node 0 leaves alone, before it hears of either. Then it can neither be created nor join.
     show(
+        run,
         b"no 25: a left notice waits for node 0",
         b"BC\x00\x00\x10\x00\
           BC\x00\x00\x20\x00\
@@ -58,6 +64,7 @@ pub(crate) fn orders() {
     );
     // It is out, joining or leaving.
     show(
+        run,
         b"no 26: a leave of a node that is not in",
         b"BC\x00\x00\x10\x00\
           BC\x00\x00\x20\x00\
@@ -74,7 +81,7 @@ pub(crate) fn orders() {
 
 // Nodes 22 and 23 ask to join, and 64 messages wait: a join of node 24, a leave of node 0 and the delivery of the request of 22 are refused.
 // Then node 1 leaves, the last that had joined; 64 wait again, and node 0, now alone, leaves too.
-pub(crate) fn full_queue() {
+pub(crate) fn full_queue(run: &mut Sheet) {
     let mut script = io::buffer();
     let used = crowd::join_and_leave(&mut script, 21, 20);
     let used = crowd::put(
@@ -94,13 +101,15 @@ pub(crate) fn full_queue() {
           JN\x18\x00\x01",
     );
     show(
+        run,
         b"no 28: with 64 waiting, a join, a leave, a delivery; a lone node leaves",
         &script[..used],
     );
 }
 
-pub(crate) fn deliveries_and_questions() {
+pub(crate) fn deliveries_and_questions(run: &mut Sheet) {
     show(
+        run,
         b"no 29: no message at that place",
         b"BC\x00\x00\x10\x00\
           BC\x00\x00\x20\x00\
@@ -112,6 +121,7 @@ pub(crate) fn deliveries_and_questions() {
     );
     // Node 0 is out, and node 1 is joining; once that is granted it is asked.
     show(
+        run,
         b"no 30: a question from a node not inserted",
         b"BC\x00\x00\x10\x00\
           BC\x00\x00\x20\x00\
