@@ -4,6 +4,7 @@ use crate::show;
 use model::sheet::Sheet;
 
 pub(crate) fn cases(run: &mut Sheet) {
+    // R9.4, R9.5, refusal 4: the same four bytes are too large in binary, and a key in packed form.
     show(
         run,
         b"no 4: BN 00 00 12 34",
@@ -14,7 +15,7 @@ pub(crate) fn cases(run: &mut Sheet) {
     full_queue(run);
 }
 
-// Neither a new key nor one that is taken finds a place, and node 31, the last, can be created.
+// R1.7, R6.5, refusal 20: neither a new key nor one that is taken finds a place, and node 31, the last, can be created.
 fn full_network(run: &mut Sheet) {
     let mut script = io::buffer();
     let used = crowd::declare_all(&mut script);
@@ -28,8 +29,8 @@ fn full_network(run: &mut Sheet) {
     show(run, b"no 20: a declaration after 32", &script[..used]);
 }
 
-// Nodes 29 and 1 ask node 0 to leave, and 64 messages wait, as RD with no budget says. The request of 29, which is the right neighbour of 0, would be
-// granted, that of 1 denied. The first is refused before and after the second is delivered; with one message less it is granted.
+// R6.10, refusal 28: nodes 29 and 1 ask node 0 to leave, and 64 messages wait, as RD with no budget says. The request of 29, which is the right neighbour
+// of 0, would be granted, that of 1 denied. The first is refused before and after the second is delivered; with one message less it is granted.
 fn full_queue(run: &mut Sheet) {
     let mut script = io::buffer();
     let used = crowd::join_and_leave(&mut script, 31, 2);

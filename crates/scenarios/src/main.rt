@@ -1,9 +1,12 @@
 // Scripts for the cases and the refusals of paper 01, run one after the other: for each a title and its printout, in which a line says what the
-// title names. The gate compares all of it with the file `stdout`.
+// title names. Above each stand the numbers of the rules in docs/RULES.md that it shows. Each script runs through the second implementation too; where the
+// two printouts differ a line says so, and the last line says how many did. The gate compares all of it with the file `stdout`.
 //
 // The refusals 6, 27 and 31 have no script. Every network that a script makes is well formed (6), and from every inserted node of it an owner is
 // found (31). The highest right number rises by one at most with each join or leave, and no script has room for 65,535 of them (27).
+mod actions;
 mod crowd;
+mod drains;
 mod fitter;
 mod input;
 mod sheets;
@@ -59,10 +62,20 @@ fn main() {
     fitter::cases(&mut run);
     input::marks(&mut run);
     input::fields(&mut run);
+    input::questions(&mut run);
     input::sizes(&mut run);
     state::orders(&mut run);
+    state::intervals(&mut run);
     state::full_queue(&mut run);
+    state::first_of_several(&mut run);
     state::deliveries_and_questions(&mut run);
+    actions::notices(&mut run);
+    actions::second_times(&mut run);
+    actions::drops(&mut run);
+    actions::denials(&mut run);
+    drains::budgets(&mut run);
+    drains::refused_place(&mut run);
+    sheets::paper(&mut run);
     sheets::wrong_serial_form(&mut run);
     sheets::join_and_leave(&mut run);
     sheets::four_at_once(&mut run);
