@@ -7,6 +7,7 @@ mod steering;
 use model::lines::name;
 use model::network::PASSED;
 use model::network::count;
+use model::printing::first_difference;
 use model::record::mark;
 use model::sheet::*;
 use model::text::*;
@@ -15,28 +16,6 @@ use std::num::wrapping_add_usize as plus;
 use std::num::wrapping_sub_usize as minus;
 
 const ALL_SCRIPTS: usize = 1000;
-
-// Where the printouts differ first, counted from 1; 0 where they are the same.
-fn difference(ours: &Page, length: usize, theirs: &Page, their_length: usize) -> usize {
-    for place in 0..length {
-        if byte_at(ours, place) != byte_at(theirs, place) {
-            return plus(place, 1);
-        }
-    }
-    if length == their_length {
-        0
-    } else {
-        plus(length, 1)
-    }
-}
-
-fn theirs_of(script: &[u8], length: usize, page: &mut Page) -> usize {
-    if length <= script.len() {
-        engine::printout(&script[0..length], page)
-    } else {
-        0
-    }
-}
 
 // The first script that differs is the one entered last, since they come from the highest number down.
 fn enter_difference(sheet: &mut Sheet, script: usize, place: usize) {
@@ -47,20 +26,23 @@ fn enter_difference(sheet: &mut Sheet, script: usize, place: usize) {
     }
 }
 
-fn turn(sheet: &mut Sheet, script: &mut Page, number: usize) {
-    let mut ours: Page = [0u8; 1048576];
+// Runs a script through both.
+fn run_both(sheet: &mut Sheet, script: &[u8], number: usize) {
     let mut theirs: Page = [0u8; 1048576];
-    let script_length = make(sheet, script, number);
-    let length = print(sheet, script, script_length, &mut ours);
-    let their_length = theirs_of(script, script_length, &mut theirs);
-    enter_difference(
-        sheet,
-        number,
-        difference(&ours, length, &theirs, their_length),
-    );
+    let length = engine::printout(script, &mut theirs);
+    let place = first_difference(sheet, script, &theirs, length);
+    enter_difference(sheet, number, place);
     add(sheet, RUN, TEXT, length);
     add(sheet, RUN, OVER, count(sheet, PASSED));
     add(sheet, RUN, SCRIPTS, 1);
+}
+
+fn turn(sheet: &mut Sheet, page: &mut Page, number: usize) {
+    let length = make(sheet, page, number);
+    let whole: &[u8] = page;
+    if length <= whole.len() {
+        run_both(sheet, &whole[0..length], number);
+    }
 }
 
 // How often an order had an answer; nothing where it never had.
@@ -112,7 +94,7 @@ fn summary(sheet: &Sheet, page: &mut Page, at: usize) -> usize {
     to
 }
 
-fn first_difference(sheet: &Sheet, page: &mut Page, at: usize) -> usize {
+fn difference_line(sheet: &Sheet, page: &mut Page, at: usize) -> usize {
     if get(sheet, RUN, DIFFERENT) == 0 {
         return at;
     }
@@ -140,7 +122,7 @@ fn run(sheet: &mut Sheet, page: &mut Page) {
     }
     let tallied = tallies(sheet, page);
     let told = summary(sheet, page, tallied);
-    let length = first_difference(sheet, page, told);
+    let length = difference_line(sheet, page, told);
     show(page, length);
 }
 

@@ -1,8 +1,8 @@
-// A script by chance, and the model's printout of any script.
+// A script by chance, which the model plays as it grows, and a ledger of the answers.
 use crate::random::*;
 use crate::steering::*;
-use model::lines::*;
 use model::network::*;
+use model::printing::LONGEST;
 use model::reading::*;
 use model::record::*;
 use model::rules::*;
@@ -35,11 +35,6 @@ pub(crate) const FIRST_SCRIPT: usize = 5;
 
 pub(crate) const FIRST_BYTE: usize = 6;
 
-// The ordinal of the last line, in the row of counts.
-const ORDINAL: usize = 6;
-
-const LONGEST: usize = 65536;
-
 // More than a script has, since each has three bytes or more.
 const MOST_RECORDS: usize = 30000;
 
@@ -55,9 +50,33 @@ fn most_bytes(script: usize, mood: usize) -> usize {
     }
 }
 
+// The answer under which a record is counted.
+fn counted(network: &Sheet, answer: usize) -> usize {
+    if answer != OWNER {
+        return answer;
+    }
+    if is_owner(network, byte(network, 2), value(network, order(network))) {
+        OWNER
+    } else {
+        HOPPED
+    }
+}
+
+// Counts an answer, where there is one.
+fn enter(sheet: &mut Sheet, answer: usize) {
+    if answer == NOTHING {
+        return;
+    }
+    add(sheet, WAITED, count(sheet, UNDERWAY), 1);
+    add(sheet, RUN, RECORDS, 1);
+    add(sheet, plus(TALLY, order(sheet)), counted(sheet, answer), 1);
+}
+
+// Plays a part of a script.
 fn read(sheet: &mut Sheet, script: &Page, from: usize, upto: usize) {
     for place in from..upto {
-        feed(sheet, byte_at(script, place));
+        let answer = feed(sheet, byte_at(script, place));
+        enter(sheet, answer);
     }
 }
 
@@ -83,7 +102,9 @@ fn grow(sheet: &mut Sheet, script: &mut Page, most: usize, mood: usize) -> usize
         throw = next(throw);
         let upto = write(script, length, choose(sheet, mood, throw));
         if is_over(sheet, upto, most) {
-            return cut(length, most, mood);
+            let all = cut(length, most, mood);
+            read(sheet, script, length, all);
+            return all;
         }
         read(sheet, script, length, upto);
         length = upto;
@@ -91,77 +112,16 @@ fn grow(sheet: &mut Sheet, script: &mut Page, most: usize, mood: usize) -> usize
     length
 }
 
+// The script of a number, on the page; the answer is its length.
 pub(crate) fn make(sheet: &mut Sheet, script: &mut Page, ordinal: usize) -> usize {
     let mood = mixed(ordinal % 65536 * 173961102589770 + 1);
     let most = most_bytes(ordinal, mood);
     if most > LONGEST {
+        add(sheet, plus(TALLY, UNKNOWN), 7, 1);
         return most;
     }
     wipe(sheet);
-    grow(sheet, script, most, mood)
-}
-
-// The answer under which a record is counted.
-fn counted(network: &Sheet, answer: usize) -> usize {
-    if answer != OWNER {
-        return answer;
-    }
-    if is_owner(network, byte(network, 2), value(network, order(network))) {
-        OWNER
-    } else {
-        HOPPED
-    }
-}
-
-fn enter(sheet: &mut Sheet, order: usize, answer: usize) {
-    add(sheet, WAITED, count(sheet, UNDERWAY), 1);
-    add(sheet, RUN, RECORDS, 1);
-    add(sheet, COUNTS, ORDINAL, 1);
-    add(sheet, plus(TALLY, order), answer, 1);
-}
-
-// Counts an answer and prints its line.
-fn keep(sheet: &mut Sheet, page: &mut Page, at: usize, answer: usize) -> usize {
-    if answer == NOTHING {
-        return at;
-    }
-    enter(sheet, order(sheet), counted(sheet, answer));
-    line(sheet, page, at, count(sheet, ORDINAL), answer)
-}
-
-// The lines of the records of a script.
-fn print_records(
-    sheet: &mut Sheet,
-    script: &Page,
-    length: usize,
-    page: &mut Page,
-    at: usize,
-) -> usize {
-    let mut to = at;
-    for place in 0..length {
-        let answer = feed(sheet, byte_at(script, place));
-        to = keep(sheet, page, to, answer);
-    }
-    keep(sheet, page, to, end(sheet))
-}
-
-// The model's printout of a script, and how long it is.
-pub(crate) fn print(sheet: &mut Sheet, script: &Page, length: usize, page: &mut Page) -> usize {
-    wipe(sheet);
-    let mut to = say(page, 0, b"ring 1\n", 0, 7, 0, 0);
-    if length > LONGEST {
-        add(sheet, plus(TALLY, UNKNOWN), 7, 1);
-        to = say(page, to, b"0 no 7\n", 0, 7, 0, 0);
-    } else {
-        to = print_records(sheet, script, length, page, to);
-    }
-    say(
-        page,
-        to,
-        b"end # posted $\n",
-        0,
-        15,
-        count(sheet, UNDERWAY),
-        count(sheet, POSTED),
-    )
+    let length = grow(sheet, script, most, mood);
+    enter(sheet, end(sheet));
+    length
 }

@@ -3,6 +3,7 @@
 pub mod lines;
 pub mod network;
 pub mod packed;
+pub mod printing;
 pub mod reading;
 pub mod record;
 pub mod rules;

@@ -6,6 +6,9 @@ use crate::sheet::*;
 use crate::text::*;
 use std::num::wrapping_sub_usize as minus;
 
+// The ordinal of the last line, in the row of counts.
+const ORDINAL: usize = 6;
+
 // The word for an answer, in cells of 12: from DECLARED on one for each, and last the one for all refusals.
 pub fn name(page: &mut Page, at: usize, answer: usize) -> usize {
     let names =
@@ -50,8 +53,13 @@ fn two_value(network: &Sheet, answer: usize) -> usize {
     }
 }
 
-pub fn line(network: &Sheet, page: &mut Page, at: usize, ordinal: usize, answer: usize) -> usize {
-    let mut to = say(page, at, b"# ", 0, 2, ordinal, 0);
+// The line of an answer, where there is one.
+pub(crate) fn line(network: &mut Sheet, page: &mut Page, at: usize, answer: usize) -> usize {
+    if answer == NOTHING {
+        return at;
+    }
+    add(network, COUNTS, ORDINAL, 1);
+    let mut to = say(page, at, b"# ", 0, 2, count(network, ORDINAL), 0);
     to = name(page, to, answer);
     finish(
         page,

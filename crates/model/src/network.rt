@@ -25,15 +25,14 @@ const MESSAGE: usize = 7;
 
 const NEXT: usize = 8;
 
-// The row of counts, and its places: PASSED is how often a drain passed a place over, MADE the deliveries of the last one. Those from 6 on are left to
-// whoever uses the model.
-pub const COUNTS: usize = 9;
+// The row of counts, and its places: PASSED is how often a drain passed a place over, MADE the deliveries of the last one.
+pub(crate) const COUNTS: usize = 9;
 
 pub const NODES: usize = 0;
 
 pub const UNDERWAY: usize = 1;
 
-pub const POSTED: usize = 2;
+pub(crate) const POSTED: usize = 2;
 
 pub const PASSED: usize = 3;
 

@@ -1,5 +1,6 @@
 // Text and scripts, written byte by byte onto a page. Each function takes the place to write at and answers the place after.
 // What would lie past the page is left out, so nobody who writes has a bound to show.
+use std::num::wrapping_add_usize as plus;
 
 pub type Page = [u8; 1048576];
 
@@ -15,12 +16,26 @@ fn wide(byte: u8) -> usize {
     byte as usize
 }
 
-// What stands at a place, as a number; 0 past the page.
-pub fn byte_at(page: &Page, at: usize) -> usize {
-    if at < 1048576 {
-        return wide(page[at]);
+// What stands at a place, as a number; 0 past the end.
+pub fn byte_at(text: &[u8], at: usize) -> usize {
+    if at < text.len() {
+        return wide(text[at]);
     }
     0
+}
+
+// Where two texts of these lengths differ first, counted from 1; 0 where they are the same.
+pub(crate) fn difference(one: &Page, length: usize, other: &Page, its_length: usize) -> usize {
+    for place in 0..length {
+        if byte_at(one, place) != byte_at(other, place) {
+            return plus(place, 1);
+        }
+    }
+    if length == its_length {
+        0
+    } else {
+        plus(length, 1)
+    }
 }
 
 // A number below ten thousand million in decimal: from the highest digit that is not 0, and the last one in any case.

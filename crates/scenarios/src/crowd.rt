@@ -21,9 +21,9 @@ pub(crate) fn declare_all(script: &mut [u8; 4096]) -> usize
     at
 }
 
-// Node 0 is created, nodes 1 to `last` ask it to join, and RD delivers just these requests. Each is granted, since it names as right neighbour
-// the node that came in before it. Then 2 * last messages wait: of node i the left notice to its right at 2 * i - 2, and the answer at 2 * i - 1.
-fn join_all(script: &mut [u8; 4096], at: usize, last: u8) -> usize
+// Node 0 is created, and nodes 1 to `last` ask it to join. Delivered in this order each is granted, since it names as right neighbour the node that
+// came in before it.
+pub(crate) fn ask_all(script: &mut [u8; 4096], at: usize, last: u8) -> usize
     requires { ⌜ Counts at (now script) ⌝ }
     ensures { λ r. ⌜ Counts r (now (script .exit)) ⌝ }
 {
@@ -31,7 +31,7 @@ fn join_all(script: &mut [u8; 4096], at: usize, last: u8) -> usize
     for before in 0..last {
         at = put(script, at, &[b'J', b'N', before + 1, 0, before]);
     }
-    put(script, at, &[b'R', b'D', last, 0])
+    at
 }
 
 // From node `last` downwards so many nodes leave again: each hears its answer and asks node 0 to leave, and this request, the last message, is
@@ -50,12 +50,14 @@ fn leave_again(script: &mut [u8; 4096], at: usize, last: u8, leavers: u8) -> usi
     at
 }
 
-// After these records 2 * joiners + leavers messages wait.
+// RD delivers just the requests to join. Then 2 * joiners messages wait: of node i the left notice to its right at 2 * i - 2, and the answer at
+// 2 * i - 1. After the leaves 2 * joiners + leavers wait.
 pub(crate) fn join_and_leave(script: &mut [u8; 4096], joiners: u8, leavers: u8) -> usize
     requires { ⌜ (leavers ≤ joiners) × (joiners ≤ 31) ⌝ }
     ensures { λ r. ⌜ Counts r (now (script .exit)) ⌝ }
 {
     let at = declare_all(script);
-    let at = join_all(script, at, joiners);
+    let at = ask_all(script, at, joiners);
+    let at = put(script, at, &[b'R', b'D', joiners, 0]);
     leave_again(script, at, joiners, leavers)
 }

@@ -1,31 +1,42 @@
-// The refusals from the input. Only 1 and 2 stop the reading: after each of the others but 7 a later record is done.
+// The refusals from the input. Only 1 and 2 stop the reading: after each of the others but 7 a later record is done (R9.5).
 ghost use mathlib.Core.Path.{_≡_};
 ghost use lib.ListN.{length};
 use crate::show;
+use model::sheet::Sheet;
 
-pub(crate) fn marks() {
-    show(b"the empty script", b"");
+pub(crate) fn marks(run: &mut Sheet) {
+    // R9.7, R9.8, R1.8: the first line and the last.
+    show(run, b"the empty script", b"");
+    // R9.2, R9.5, refusal 1: the declaration after it is not read.
     show(
+        run,
         b"no 1: an unknown mark ends the reading",
         b"BC\x00\x00\x10\x00\
           XX\
           BC\x00\x00\x20\x00",
     );
-    show(b"no 1: a mark in lower case", b"bc\x00\x00\x10\x00");
+    // R9.2, refusal 1: small letters make no mark.
+    show(run, b"no 1: a mark in lower case", b"bc\x00\x00\x10\x00");
+    // R9.5, refusal 2: what is left of the script is too short for a mark.
     show(
+        run,
         b"no 2: one byte of a mark",
         b"BC\x00\x00\x10\x00\
           B",
     );
+    // R9.5, refusal 2: what is left of the script is too short for the fields.
     show(
+        run,
         b"no 2: a record without its last byte",
         b"BC\x00\x00\x10\x00\
           BC\x00\x00\x20",
     );
 }
 
-pub(crate) fn fields() {
+pub(crate) fn fields(run: &mut Sheet) {
+    // R9.4, R9.6, refusal 3: the first digit and the last, of a declaration and of a question.
     show(
+        run,
         b"no 3: a digit above 9",
         b"BC\xa0\x00\x00\x00\
           BC\x00\x00\x00\x0a\
@@ -34,7 +45,9 @@ pub(crate) fn fields() {
           OC\x00\x00\x00\x00\x0a\
           OC\x00\x00\x00\x00\x09",
     );
+    // R1.1, R9.4, refusal 4: one too many and the highest, of a declaration and of a question.
     show(
+        run,
         b"no 4: a serial above 99,999,999",
         b"BN\x00\xe1\xf5\x05\
           BN\xff\xe0\xf5\x05\
@@ -42,8 +55,9 @@ pub(crate) fn fields() {
           ON\x00\x00\xe1\xf5\x05\
           ON\x00\xff\xe0\xf5\x05",
     );
-    // Each field that names a node, and a question with a digit above 9 as well: the start comes first.
+    // R6.5 to R6.8, R7.3, refusal 5: each field that names a node, and a question with a digit above 9 as well: the start comes first.
     show(
+        run,
         b"no 5: node 2 is not declared",
         b"BC\x00\x00\x10\x00\
           BC\x00\x00\x20\x00\
@@ -59,6 +73,21 @@ pub(crate) fn fields() {
     );
 }
 
+// R7.3, R9.6, refusals 5, 3, 4 and 30: node 1 is not declared, node 0 is and is out; the serial has a digit above 9, is too large, or is right.
+pub(crate) fn questions(run: &mut Sheet) {
+    show(
+        run,
+        b"no 5: an undeclared start, before 3 and 4 of its serial, and these before 30",
+        b"BC\x00\x00\x10\x00\
+          OC\x01\x00\x00\x00\x0a\
+          ON\x01\x00\xe1\xf5\x05\
+          OC\x00\x00\x00\x00\x0a\
+          ON\x00\x00\xe1\xf5\x05\
+          OC\xff\x00\x00\x00\x09\
+          OC\x00\x00\x00\x00\x09",
+    );
+}
+
 // One byte more than a script may have.
 fn long_buffer() -> [u8; 65537]
     ensures { λ r. ⌜ 65_537 ≡ length r ⌝ }
@@ -66,12 +95,12 @@ fn long_buffer() -> [u8; 65537]
     [0; 65537]
 }
 
-// Both scripts begin with a declaration and go on with zeros, which are no mark.
-pub(crate) fn sizes() {
+// R9.1, refusal 7: both scripts begin with a declaration and go on with zeros, which are no mark.
+pub(crate) fn sizes(run: &mut Sheet) {
     let mut too_long = long_buffer();
     text::append(&mut too_long, 0, b"BC\x00\x00\x10\x00");
-    show(b"no 7: 65,537 bytes", &too_long);
+    show(run, b"no 7: 65,537 bytes", &too_long);
     let mut longest = io::large_buffer();
     text::append(&mut longest, 0, b"BC\x00\x00\x10\x00");
-    show(b"65,536 bytes are read", &longest);
+    show(run, b"65,536 bytes are read", &longest);
 }

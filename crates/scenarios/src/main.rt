@@ -1,32 +1,83 @@
 // Scripts for the cases and the refusals of paper 01, run one after the other: for each a title and its printout, in which a line says what the
-// title names. The gate compares all of it with the file `stdout`.
+// title names. Above each stand the numbers of the rules in docs/RULES.md that it shows. Each script runs through the second implementation too; where the
+// two printouts differ a line says so, and the last line says how many did. The gate compares all of it with the file `stdout`.
 //
 // The refusals 6, 27 and 31 have no script. Every network that a script makes is well formed (6), and from every inserted node of it an owner is
 // found (31). The highest right number rises by one at most with each join or leave, and no script has room for 65,535 of them (27).
+mod actions;
 mod crowd;
+mod drains;
 mod fitter;
 mod input;
 mod sheets;
 mod state;
 
-pub(crate) fn show(title: &[u8], script: &[u8]) {
-    let mut text = [0u8; 1048576];
+use model::printing::first_difference;
+use model::sheet::*;
+use model::text::Page;
+
+// The sheet of the second implementation serves all scripts. In a row that it leaves alone stand how many scripts were run, and how many differed.
+const RUN: usize = 16;
+
+const SCRIPTS: usize = 0;
+
+const DIFFERENT: usize = 1;
+
+// Counts a script, and says where its printouts differ, if they do.
+fn enter(run: &mut Sheet, place: usize) {
+    add(run, RUN, SCRIPTS, 1);
+    if place > 0 {
+        add(run, RUN, DIFFERENT, 1);
+        io::write_all(
+            1,
+            b"== differs from the second implementation, first at byte ",
+        );
+        io::print_decimal(1, place as u64);
+        io::write_all(1, b"\n");
+    }
+}
+
+// Runs a script through both implementations, and writes its title and the printout of the first.
+pub(crate) fn show(run: &mut Sheet, title: &[u8], script: &[u8]) {
+    let mut text: Page = [0u8; 1048576];
     let used = engine::printout(script, &mut text);
     io::write_all(1, b"== ");
     io::write_all(1, title);
     io::write_all(1, b"\n");
     io::write_all(1, &text[..used]);
+    let place = first_difference(run, script, &text, used);
+    enter(run, place);
+}
+
+fn summary(run: &Sheet) {
+    io::write_all(1, b"== ");
+    io::print_decimal(1, get(run, RUN, SCRIPTS) as u64);
+    io::write_all(1, b" scripts, ");
+    io::print_decimal(1, get(run, RUN, DIFFERENT) as u64);
+    io::write_all(1, b" differ from the second implementation\n");
 }
 
 fn main() {
-    fitter::cases();
-    input::marks();
-    input::fields();
-    input::sizes();
-    state::orders();
-    state::full_queue();
-    state::deliveries_and_questions();
-    sheets::wrong_serial_form();
-    sheets::join_and_leave();
-    sheets::four_at_once();
+    let mut run: Sheet = [0usize; 4096];
+    fitter::cases(&mut run);
+    input::marks(&mut run);
+    input::fields(&mut run);
+    input::questions(&mut run);
+    input::sizes(&mut run);
+    state::orders(&mut run);
+    state::intervals(&mut run);
+    state::full_queue(&mut run);
+    state::first_of_several(&mut run);
+    state::deliveries_and_questions(&mut run);
+    actions::notices(&mut run);
+    actions::second_times(&mut run);
+    actions::drops(&mut run);
+    actions::denials(&mut run);
+    drains::budgets(&mut run);
+    drains::refused_place(&mut run);
+    sheets::paper(&mut run);
+    sheets::wrong_serial_form(&mut run);
+    sheets::join_and_leave(&mut run);
+    sheets::four_at_once(&mut run);
+    summary(&run);
 }

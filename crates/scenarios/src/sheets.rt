@@ -1,9 +1,32 @@
-// Three of the example sheets of the folder `examples`, one record to a line. There each record has a comment that says what it does, and
-// beside each sheet stands its printout, which is the same.
+// The sheets of the folder `examples`, one record to a line. There each record has a comment that says what it does, and beside each sheet stands its
+// printout, which is the same.
 use crate::show;
+use model::sheet::Sheet;
 
-pub(crate) fn wrong_serial_form() {
+// R5.5, R5.9, R5.11: node 0 asks to leave before it has heard of its left neighbour, and so asks and denies itself.
+pub(crate) fn paper(run: &mut Sheet) {
     show(
+        run,
+        b"paper",
+        b"BC\x00\x00\x10\x00\
+          BN\xd0\x07\x00\x00\
+          CR\x00\
+          JN\x01\x00\x00\
+          DL\x00\
+          DL\x01\
+          LV\x00\
+          DL\x01\
+          DL\x00\
+          DL\x00\
+          OC\x00\x00\x00\x09\x99\
+          DL\x00",
+    );
+}
+
+// R9.4, R1.1, refusals 3, 4, 5 and 21: the two forms of a serial, taken for each other.
+pub(crate) fn wrong_serial_form(run: &mut Sheet) {
+    show(
+        run,
         b"wrong-serial-form",
         b"BC\x00\x00\x12\x34\
           BN\x00\x00\x12\x34\
@@ -31,8 +54,10 @@ pub(crate) fn wrong_serial_form() {
     );
 }
 
-pub(crate) fn join_and_leave() {
+// R4.1, R3.2, R5.1 to R5.8, R5.10, R7.1, refusal 30: each message of a join and of a leave, and who owns what before and after.
+pub(crate) fn join_and_leave(run: &mut Sheet) {
     show(
+        run,
         b"join-and-leave",
         b"BC\x00\x00\x10\x00\
           BC\x00\x00\x20\x00\
@@ -61,8 +86,10 @@ pub(crate) fn join_and_leave() {
     );
 }
 
-pub(crate) fn four_at_once() {
+// R5.5, R5.9, R5.11, R5.12, R6.9, R7.1, refusals 23 and 29: one of four requests is granted, and messages are delivered out of order.
+pub(crate) fn four_at_once(run: &mut Sheet) {
     show(
+        run,
         b"four-at-once",
         b"BC\x00\x00\x10\x00\
           BC\x00\x00\x20\x00\

@@ -35,8 +35,8 @@ tallies-requires c κs = tt
 summary-requires : tie.Need-summary-requires Inv-loop μ-loop
 summary-requires c κs = tt
 
-first-difference-requires : tie.Need-first-difference-requires Inv-loop μ-loop
-first-difference-requires c κs = tt
+difference-line-requires : tie.Need-difference-line-requires Inv-loop μ-loop
+difference-line-requires c κs = tt
 
 show-requires : tie.Need-show-requires Inv-loop μ-loop
 show-requires c κs = tt
@@ -45,4 +45,4 @@ returns : tie.Need-returns Inv-loop μ-loop
 returns c = tt
 
 pub run-spec : {M : Type 1} → statement M
-run-spec = tie.close (tie.spec Inv-loop μ-loop loop-holds wrapping-sub-usize-requires turn-requires add-done loop-less loop-again tallies-requires summary-requires first-difference-requires show-requires returns)
+run-spec = tie.close (tie.spec Inv-loop μ-loop loop-holds wrapping-sub-usize-requires turn-requires add-done loop-less loop-again tallies-requires summary-requires difference-line-requires show-requires returns)

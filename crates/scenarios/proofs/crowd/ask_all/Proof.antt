@@ -1,9 +1,9 @@
--- `scenarios::crowd::join_all` meets its contract. The loop's invariant: the place is inside the script. Assumes nothing.
+-- `scenarios::crowd::ask_all` meets its contract. The loop's invariant: the place is inside the script. Assumes nothing.
 use Prim.Native.Nat.{_-_}
 use borrow.Author.Needs.{needs}
 use Rattle.io.specs.Counts.{Counts}
-use Rattle.scenarios.proofs.crowd.join_all.Statement.{statement}
-use Rattle.scenarios.proofs.crowd.join_all.Tie as tie
+use Rattle.scenarios.proofs.crowd.ask_all.Statement.{statement}
+use Rattle.scenarios.proofs.crowd.ask_all.Tie as tie
 
 abbrev Inv-loop : tie.InvT-loop
 Inv-loop script₀ at last at₀ before₀ script at' before = Counts at' script
@@ -11,8 +11,8 @@ Inv-loop script₀ at last at₀ before₀ script at' before = Counts at' script
 abbrev μ-loop : tie.MeasureT-loop
 μ-loop script₀ at last at₀ before₀ script at' before = last - before
 
-pub join-all-spec : {M : Type 1} → statement M
-join-all-spec =
+pub ask-all-spec : {M : Type 1} → statement M
+ask-all-spec =
     tie.close
     (tie.spec
     Inv-loop
@@ -26,6 +26,4 @@ join-all-spec =
     (λ c. search needs)
     (λ c. search needs)
     (λ c. search needs)
-    (λ c. search needs)
-    (λ c κs. search needs)
     (λ c. search needs))
