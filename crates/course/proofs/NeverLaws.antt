@@ -1,12 +1,12 @@
 -- Refusals that no record meets: 6 on a well-formed network, and 31 on a network that a list of calls makes. The fields give 3, 4 and 5, and
 -- what a record does then is a call, a question or a drain. Assumes nothing.
-use mathlib.Core.Path.{_≡_, refl, ap, _∙_}
+use mathlib.Core.Path.{_≡_, refl, ap}
 use mathlib.Core.Bool.{false, not}
 use mathlib.Core.List.{List, _∷_}
 use mathlib.Core.Option.{Option, none, some}
 use Prim.Native.Nat.{ℕ}
-use native.Mathlib.Omega.{arith}
 use lib.Dec.{T, eqb}
+use Rattle.predicates.proofs.Laws.{impossible}
 use Rattle.predicates.proofs.TestLaws.{is-true, not-both}
 use Rattle.refusal.specs.Code.{Reason, plain}
 use Rattle.refusal.specs.Rules.{no, _when_, first, unlessRefused}
@@ -51,11 +51,11 @@ said-by-doing s w asked {n} fields doing e = go (first ((6 when not (wellFormed 
 
     go : (o : Option Reason) → first ((6 when not (wellFormed s)) ∷ fieldRules s asked) ≡ o → ¬ (unlessRefused o (refused s) (executing s asked) .said ≡ no (plain n))
     go none clear f = doing f
-    go (some r) refuses f = let same : r ≡ plain n = cc in never rules (refuses ∙ ap some same)
+    go (some r) refuses f = never rules cc
 
 -- a drain of a well-formed network is not refused
 drain-done : (s : State) → T (wellFormed s) → (budget : ℕ) (r : Reason) → ¬ (executing s (Drain budget) .said ≡ no r)
-drain-done s w budget r e = let f = rw (drain-is s budget w) at e in let z : _≡_ {A = ℕ} 0 1 = cc in omega arith
+drain-done s w budget r e = let f = rw (drain-is s budget w) at e in impossible cc
 
 -- ---- 6
 call-not-six : (s : State) → T (wellFormed s) → (call : AnyCall) → ¬ (executing s (Call call) .said ≡ no (plain 6))

@@ -1,6 +1,6 @@
 -- A record leaves the network well formed, on the arrays as on the lists, and posts no more than a few messages; a refused one leaves it as
 -- it was. Assumes nothing.
-use mathlib.Core.Path.{_≡_, refl, ap}
+use mathlib.Core.Path.{_≡_, refl}
 use mathlib.Core.Logic.{⊎-elim}
 use mathlib.Core.Bool.{not}
 use mathlib.Core.List.{List, [], _∷_}
@@ -95,4 +95,4 @@ lists-refused-same s asked r e = go (first ((6 when not (wellFormed s)) ∷ fiel
   where
     go : (o : Option Reason) → unlessRefused o (refused s) (executing s asked) .said ≡ no r → unlessRefused o (refused s) (executing s asked) ≡ refused s r
     go none f = executing-refused s asked r f
-    go (some n) f = let same : n ≡ r = cc in ap (refused s) same
+    go (some n) f = cc

@@ -2,13 +2,16 @@
 -- is; every other record is the call or the deliveries that it asks for. Assumes nothing.
 use mathlib.Core.Path.{_≡_, refl, sym, ap, _∙_}
 use mathlib.Core.Logic.{⊎-elim}
+use mathlib.Core.Bool.{false}
 use mathlib.Core.List.{List, [], _∷_, _++_, map, append-nil, append-assoc}
 use mathlib.Core.List.{List·Memᴰ·not-nil as in-none, List·Memᴰ·eq-of-singleton as in-one, List·Memᴰ·append-cases as in-part}
 use mathlib.Core.Option.{Option, none, some}
 use Prim.Native.Nat.{ℕ, zero, suc, _+_}
 use native.Mathlib.Omega.{arith}
 use lib.ListN.{length, length-append}
-use lib.Dec.{T}
+use lib.Dec.{T, eqb}
+use borrow.Author.Tests.{eqb-false}
+use Rattle.predicates.proofs.Laws.{impossible}
 use Rattle.predicates.proofs.TestLaws.{_∈_, is-true}
 use Rattle.refusal.specs.Code.{Reason, plain}
 use Rattle.refusal.specs.Rules.{Coded, no, first, unlessRefused}
@@ -66,18 +69,18 @@ module _ (calls : List Call) where
   done-so : (asked : Record) → first (fieldRules here asked) ≡ none → Follows calls (callsOf here asked) (executing here asked)
   done-so (CallRecord call) clear = one-call call
   done-so (DeclareRecord (Value key)) clear = one-call (Order (Declare key))
-  done-so (DeclareRecord BadDigit) clear = let z : _≡_ {A = ℕ} 0 1 = cc in absurd (omega arith)
-  done-so (DeclareRecord TooLarge) clear = let z : _≡_ {A = ℕ} 0 1 = cc in absurd (omega arith)
+  done-so (DeclareRecord BadDigit) clear = impossible cc
+  done-so (DeclareRecord TooLarge) clear = impossible cc
   done-so (OwnerRecord from serial) clear = nothing-more (executing here (OwnerRecord from serial)) refl refl
   done-so (DrainRecord budget) clear = drained-so budget
 
   refused-so : (asked : Record) (r : Reason) → first (fieldRules here asked) ≡ some r → Follows calls (callsOf here asked) (refused here r)
-  refused-so (CallRecord call) r e = let z : _≡_ {A = ℕ} 0 1 = cc in absurd (omega arith)
-  refused-so (DeclareRecord (Value key)) r e = let z : _≡_ {A = ℕ} 0 1 = cc in absurd (omega arith)
+  refused-so (CallRecord call) r e = impossible cc
+  refused-so (DeclareRecord (Value key)) r e = impossible cc
   refused-so (DeclareRecord BadDigit) r e = nothing-more (refused here r) refl refl
   refused-so (DeclareRecord TooLarge) r e = nothing-more (refused here r) refl refl
   refused-so (OwnerRecord from serial) r e = nothing-more (refused here r) refl refl
-  refused-so (DrainRecord budget) r e = let z : _≡_ {A = ℕ} 0 1 = cc in absurd (omega arith)
+  refused-so (DrainRecord budget) r e = impossible cc
 
   follows : (asked : Record) → Follows calls (callsOf here asked) (executeOf here asked)
   unfolding executeOf
@@ -132,7 +135,7 @@ told script zero = (refl, sym (append-nil heading))
 told script (suc k) = one-answer script (answersOf script k) (after script k) (told script k) (readAt script (after script k .at))
 
 -- ---- numbers that no line says: the reading stops by 1 and 2, and no record says them
-not-said : (n : ℕ) → ¬ (plain 1 ≡ plain n) → ¬ (plain 2 ≡ plain n) → (s : State) → ((asked : Record) → ¬ (executeOf s asked .said ≡ no (plain n)))
+not-said : (n : ℕ) → eqb 1 n ≡ false → eqb 2 n ≡ false → (s : State) → ((asked : Record) → ¬ (executeOf s asked .said ≡ no (plain n)))
     → (script : List ℕ) (at : ℕ) → ¬ (no (plain n) ∈ answerTo s (readAt script at))
 not-said n one two s executed script at = go (readAt script at) refl
   where
@@ -140,11 +143,10 @@ not-said n one two s executed script at = go (readAt script at) refl
     go end read i = in-none i
     go (stop r) read i =
         let e = in-one i in
-        let same : r ≡ plain n = cc in
-        ⊎-elim (λ (f : r ≡ plain 1). one (sym f ∙ same)) (λ (f : r ≡ plain 2). two (sym f ∙ same)) (stops-by script at r read)
+        ⊎-elim (λ (f : r ≡ plain 1). eqb-false 1 n one cc) (λ (f : r ≡ plain 2). eqb-false 2 n two cc) (stops-by script at r read)
     go (next asked c) read i = executed asked (sym (in-one i))
 
-none-says : (n : ℕ) → ¬ (plain 1 ≡ plain n) → ¬ (plain 2 ≡ plain n) → (script : List ℕ) → ((k : ℕ) (asked : Record) → ¬ (executeOf (after script k .state) asked .said ≡ no (plain n)))
+none-says : (n : ℕ) → eqb 1 n ≡ false → eqb 2 n ≡ false → (script : List ℕ) → ((k : ℕ) (asked : Record) → ¬ (executeOf (after script k .state) asked .said ≡ no (plain n)))
     → (k : ℕ) → ¬ (no (plain n) ∈ answersOf script k)
 none-says n one two script executed zero i = in-none i
 none-says n one two script executed (suc k) i =
@@ -158,9 +160,9 @@ script-is-calls script k =
       posts = posts;
       sound = ring (scriptCalls script k);
       printed = told script k .1;
-      never-6 = none-says 6 (λ e. let z : _≡_ {A = ℕ} 1 6 = cc in omega arith) (λ e. let z : _≡_ {A = ℕ} 2 6 = cc in omega arith) script
+      never-6 = none-says 6 refl refl script
           (λ j. rw (sofar script j .0) (never-six (history (scriptCalls script j) .state) (ring (scriptCalls script j) .well-formed))) k;
-      never-31 = none-says 31 (λ e. let z : _≡_ {A = ℕ} 1 31 = cc in omega arith) (λ e. let z : _≡_ {A = ℕ} 2 31 = cc in omega arith) script
+      never-31 = none-says 31 refl refl script
           (λ j. rw (sofar script j .0) (never-31 (scriptCalls script j))) k;
       found = λ from serial. rw network (always-found (scriptCalls script k) from serial);
     }

@@ -2,7 +2,7 @@
 -- lists, its tests come to the rules, and what it writes are the lists so changed. Assumes nothing.
 use mathlib.Core.Path.{_≡_, refl, sym, ap, _∙_}
 use mathlib.Core.Logic.{⊎-elim}
-use mathlib.Core.Bool.{Bool, true, false, not, _&&_, _||_, cond}
+use mathlib.Core.Bool.{Bool, true, false, not, _&&_, _||_, cond, and-false}
 use mathlib.Core.Option.{Option, none, some}
 use mathlib.Core.List.{List, _∷_}
 use Prim.Native.Nat.{ℕ, _+_, _-_, _≤_, _<_}
@@ -13,7 +13,7 @@ use lib.Seq.{getD-take}
 use lib.Dec.{ltb, eqb}
 use borrow.Author.Tests.{leb-true, ltb-true, le-leb, lt-ltb, le-ltb, not-false}
 use Rattle.predicates.specs.Tests.{everyBelow, any}
-use Rattle.predicates.proofs.Laws.{true-is-not-false, both, and-false}
+use Rattle.predicates.proofs.Laws.{impossible, both}
 use Rattle.predicates.proofs.TestLaws.{decided, is-true, below-agree}
 use Rattle.refusal.specs.Code.{Reason, plain}
 use Rattle.refusal.specs.Rules.{Coded, done, no, Rule, _when_, first, unlessRefused}
@@ -67,21 +67,21 @@ unless-says false rest says there absent = absent refl
 
 unless-known : (known : Bool) (rest : Option Reason) → unless known rest ≡ none → (known ≡ true) × (rest ≡ none)
 unless-known true rest e = (refl, e)
-unless-known false rest e = let z : _≡_ {A = ℕ} 0 1 = cc in absurd (omega arith)
+unless-known false rest e = impossible cc
 
 -- one of three nodes that is not declared
 some-undeclared : (a b c : Bool) (rest : Option Reason) → (a && (b && c)) ≡ false → cond (not a) (some (plain 5)) (cond (not b) (some (plain 5)) (cond (not c) (some (plain 5)) rest)) ≡ some (plain 5)
 some-undeclared false b c rest e = refl
 some-undeclared true false c rest e = refl
 some-undeclared true true false rest e = refl
-some-undeclared true true true rest e = absurd (true-is-not-false (sym e))
+some-undeclared true true true rest e = impossible (sym e)
 
 room-cleared : (waiting : ℕ) (posts : List Message) → first (roomTests waiting posts) ≡ none → waiting + length posts ≤ queueLimit
 room-cleared waiting posts clear = leb-true _ _ (not-false _ (cleared (roomTests waiting posts) clear .0))
 
 after-cleared : {A : Type 0} (said : Coded A) (rest : Option Reason) → afterStep said rest ≡ none → rest ≡ none
 after-cleared (done a) rest e = e
-after-cleared (no r) rest e = let z : _≡_ {A = ℕ} 0 1 = cc in absurd (omega arith)
+after-cleared (no r) rest e = impossible cc
 
 -- ---- a well-formed network
 module _ (n : Network) (l : Lengths n) (h : wellFormed n ≡ true) where

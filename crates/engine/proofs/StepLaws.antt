@@ -2,7 +2,7 @@
 -- so that the rule on room, read off the posts, is refusal 28 as R6.7, R6.8, R6.9 have it. Assumes nothing.
 use mathlib.Core.Path.{_≡_, refl, sym, ap, _∙_}
 use mathlib.Core.Logic.{⊎-elim}
-use mathlib.Core.Bool.{Bool, true, false, not, _&&_, cond, and-true}
+use mathlib.Core.Bool.{Bool, true, false, not, _&&_, cond, and-true, and-false}
 use mathlib.Core.List.{List, [], _∷_, _++_}
 use mathlib.Core.Option.{Option, none, some}
 use Prim.Native.Nat.{ℕ, suc, _+_, _-_, _≤_, _<_}
@@ -10,7 +10,7 @@ use native.Mathlib.Omega.{arith}
 use lib.ListN.{length}
 use lib.Dec.{leb, ltb}
 use borrow.Author.Tests.{le-leb, lt-ltb}
-use Rattle.predicates.proofs.Laws.{true-is-not-false, and-false, by-test}
+use Rattle.predicates.proofs.Laws.{impossible, by-test}
 use Rattle.predicates.proofs.TestLaws.{decided}
 use Rattle.refusal.specs.Code.{Reason}
 use Rattle.refusal.specs.Rules.{done, Rule, _when_, first, unlessRefused, ruled}
@@ -40,7 +40,7 @@ use Rattle.decision.specs.Decided.{afterStep, roomTests}
 
 -- ---- how much a step posts
 not-out : (status : Status) → isIn status ≡ true → isOut status ≡ false
-not-out Out e = absurd (true-is-not-false e)
+not-out Out e = impossible e
 not-out Ins e = refl
 not-out In e = refl
 not-out Del e = refl
@@ -108,9 +108,9 @@ leaving-says me u = go (alone me u)
 module _ (me : ℕ) (u : Node) (v : ℕ) where
   granted-posts : (kind : Kind) → wouldGrant u v kind ≡ true → length (actOf me u v kind .posts) ≡ 2
   granted-posts (SetR new e n) g = rw (not-out (u .status) (granted u v new e g .is-in), g)
-  granted-posts (SetRAck n) g = absurd (true-is-not-false g)
-  granted-posts SetRNak g = absurd (true-is-not-false g)
-  granted-posts (SetL left n) g = absurd (true-is-not-false g)
+  granted-posts (SetRAck n) g = impossible g
+  granted-posts SetRNak g = impossible g
+  granted-posts (SetL left n) g = impossible g
 
   other-posts : (kind : Kind) → wouldGrant u v kind ≡ false → length (actOf me u v kind .posts) ≤ 1
   other-posts kind f = by-test (λ (e : Effect). length (e .posts) ≤ 1) (isOut (u .status)) _ _ (λ _. omega arith) (λ _. acting kind f)

@@ -10,7 +10,7 @@ use lib.Seq.{length-take-le, take-append-seam, drop-append-seam}
 use lib.Dec.{leb, eqb}
 use borrow.Author.Tests.{leb-true, le-leb, eqb-true}
 use Rattle.predicates.specs.Tests.{every}
-use Rattle.predicates.proofs.Laws.{both, true-is-not-false}
+use Rattle.predicates.proofs.Laws.{both, impossible}
 use Rattle.predicates.proofs.TestLaws.{holds, is-true}
 use Rattle.sequence.specs.Sequence.{firstSeq, same}
 use Rattle.sequence.proofs.Laws.{same-iff}
@@ -57,17 +57,17 @@ module _ {A : Type 0} (blank : A) (test : A → Bool) where
 -- ---- the tests of every field pass the blanks, and nothing else
 no-link : (link : Link) → not (linked link) ≡ true → link ≡ Unlinked
 no-link Unlinked t = refl
-no-link (To n) t = absurd (true-is-not-false t)
+no-link (To n) t = impossible t
 
 no-number : (number : Seq) → not (numbered number) ≡ true → number ≡ Unset
 no-number Unset t = refl
-no-number (Is n) t = absurd (true-is-not-false t)
+no-number (Is n) t = impossible t
 
 nak-kind : (kind : Kind) → isNak kind ≡ true → kind ≡ SetRNak
-nak-kind (SetR new expected number) t = absurd (true-is-not-false t)
-nak-kind (SetRAck number) t = absurd (true-is-not-false t)
+nak-kind (SetR new expected number) t = impossible t
+nak-kind (SetRAck number) t = impossible t
 nak-kind SetRNak t = refl
-nak-kind (SetL left number) t = absurd (true-is-not-false t)
+nak-kind (SetL left number) t = impossible t
 
 pub vacant-node : (u : Node) → isVacantNode u ≡ true → u ≡ vacantNode
 vacant-node u h =

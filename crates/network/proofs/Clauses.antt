@@ -12,7 +12,7 @@ use lib.Seq.{length-take-le, getD-take}
 use lib.Dec.{ltb, leb, eqb}
 use borrow.Author.Tests.{ltb-true, ltb-false, le-leb, lt-leb}
 use Rattle.predicates.specs.Tests.{count, every, everyBelow}
-use Rattle.predicates.proofs.Laws.{both, not-left, true-is-not-false}
+use Rattle.predicates.proofs.Laws.{both, not-left, impossible}
 use Rattle.predicates.proofs.TestLaws.{decided, every-in, all-pass, below-agree, below-both}
 use Rattle.parts.specs.Shape.{messageFits}
 use Rattle.node.specs.declared.Node.{Node}
@@ -55,7 +55,7 @@ past-limits n h = ⊎-elim many-nodes (λ f. many-messages (not-left (ltb capaci
     many-messages t = rw (lt-leb (n .waiting) queueLimit (ltb-true queueLimit (n .waiting) t), and-false)
 
 neither : (p q : Bool) → (p || q) ≡ false → (p ≡ false) × (q ≡ false)
-neither true q h = absurd (true-is-not-false (sym h))
+neither true q h = impossible (sym h)
 neither false q h = (refl, h)
 
 pub within-limits : (n : Network) → pastLimits n ≡ false → (n .count ≤ capacity) × (n .waiting ≤ queueLimit)

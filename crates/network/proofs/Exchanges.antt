@@ -3,7 +3,7 @@
 -- many; and where the walk ends, no node has. Assumes nothing.
 use mathlib.Core.Path.{_≡_, refl, sym, ap, _∙_}
 use mathlib.Core.Logic.{_≢_}
-use mathlib.Core.Bool.{Bool, true, false, _&&_, _||_}
+use mathlib.Core.Bool.{Bool, true, false, _&&_, _||_, or-false}
 use mathlib.Core.List.{List}
 use Prim.Native.Nat.{ℕ, _+_, _-_, _<_}
 use native.Mathlib.Numerals.{add-one}
@@ -14,7 +14,6 @@ use lib.Seq.{getD-set-same, getD-set-other}
 use lib.Dec.{ltb, leb, eqb}
 use borrow.Author.Tests.{eq-eqb, ne-eqb, le-leb, lt-leb}
 use Rattle.predicates.specs.Tests.{bit, count, everyBelow}
-use Rattle.predicates.proofs.Laws.{or-false}
 use Rattle.predicates.proofs.TestLaws.{count-take, below-all, below-fails, bit-true, bit-false}
 use Rattle.parts.specs.declared.Link.{Link}
 use Rattle.parts.specs.declared.Link.the-variants.{Unlinked, To}

@@ -5,7 +5,7 @@ use mathlib.Core.Bool.{true, false, not, _&&_}
 use Prim.Native.Nat.{ℕ}
 use lib.Dec.{eqb}
 use borrow.Author.Tests.{eqb-true, eq-eqb, ne-eqb}
-use Rattle.predicates.proofs.Laws.{true-is-not-false, both}
+use Rattle.predicates.proofs.Laws.{impossible, both}
 use Rattle.refusal.proofs.Laws.{Cleared}
 use Rattle.sequence.specs.Sequence.{nextSeq, hasNext, cappedNext}
 use Rattle.sequence.proofs.Laws.{capped-next}
@@ -24,18 +24,18 @@ use Rattle.node.specs.Actions.{setR, setRAck, setL, withStatus, quiet, p
 -- ---- what the tests say
 pub tested-out : (s : Status) → isOut s ≡ true → s ≡ Out
 tested-out Out h = refl
-tested-out Ins h = absurd (true-is-not-false h)
-tested-out In h = absurd (true-is-not-false h)
-tested-out Del h = absurd (true-is-not-false h)
+tested-out Ins h = impossible h
+tested-out In h = impossible h
+tested-out Del h = impossible h
 
 pub tested-in : (s : Status) → isIn s ≡ true → s ≡ In
-tested-in Out h = absurd (true-is-not-false h)
-tested-in Ins h = absurd (true-is-not-false h)
+tested-in Out h = impossible h
+tested-in Ins h = impossible h
 tested-in In h = refl
-tested-in Del h = absurd (true-is-not-false h)
+tested-in Del h = impossible h
 
 pub tested-link : (l : Link) (n : ℕ) → linksTo l n ≡ true → l ≡ To n
-tested-link Unlinked n h = absurd (true-is-not-false h)
+tested-link Unlinked n h = impossible h
 tested-link (To m) n h = ap To (eqb-true m n h)
 
 -- what a granted request shows of the node that grants it

@@ -1,8 +1,6 @@
 -- What an effect says fixes the whole answer of a step: two answers that say the same are the same. So a contract that gives a step's
 -- effect leaves nothing of the answer open. Assumes nothing.
 use mathlib.Core.Path.{_≡_, refl, ap}
-use Prim.Native.Nat.{ℕ}
-use native.Mathlib.Omega.{arith}
 use Rattle.refusal.proofs.Laws.{reason-injective}
 use Rattle.parts.specs.declared.Posts.{Posts}
 use Rattle.parts.specs.declared.Posts.the-variants.{Nothing, One, Two}
@@ -14,19 +12,19 @@ use Rattle.node.specs.Actions.{Effect, coded, effect}
 
 posted-injective : (a b : Posts) → posted a ≡ posted b → a ≡ b
 posted-injective Nothing Nothing e = refl
-posted-injective Nothing (One m) e = let z : _≡_ {A = ℕ} 0 1 = cc in absurd (omega arith)
-posted-injective Nothing (Two m n) e = let z : _≡_ {A = ℕ} 0 1 = cc in absurd (omega arith)
-posted-injective (One m) Nothing e = let z : _≡_ {A = ℕ} 0 1 = cc in absurd (omega arith)
+posted-injective Nothing (One m) e = cc
+posted-injective Nothing (Two m n) e = cc
+posted-injective (One m) Nothing e = cc
 posted-injective (One m) (One k) e = cc
-posted-injective (One m) (Two k l) e = let z : _≡_ {A = ℕ} 0 1 = cc in absurd (omega arith)
-posted-injective (Two m n) Nothing e = let z : _≡_ {A = ℕ} 0 1 = cc in absurd (omega arith)
-posted-injective (Two m n) (One k) e = let z : _≡_ {A = ℕ} 0 1 = cc in absurd (omega arith)
+posted-injective (One m) (Two k l) e = cc
+posted-injective (Two m n) Nothing e = cc
+posted-injective (Two m n) (One k) e = cc
 posted-injective (Two m n) (Two k l) e = cc
 
 coded-injective : (a b : Verdict) → coded a ≡ coded b → a ≡ b
 coded-injective (Done o) (Done p) e = cc
-coded-injective (Done o) (Refused r) e = let z : _≡_ {A = ℕ} 0 1 = cc in absurd (omega arith)
-coded-injective (Refused r) (Done o) e = let z : _≡_ {A = ℕ} 0 1 = cc in absurd (omega arith)
+coded-injective (Done o) (Refused r) e = cc
+coded-injective (Refused r) (Done o) e = cc
 coded-injective (Refused r) (Refused s) e = ap Refused (reason-injective r s cc)
 
 pub effect-injective : (s t : Step) → effect s ≡ effect t → s ≡ t

@@ -9,7 +9,7 @@ use Prim.Native.Nat.{ℕ, _≤_, _<_}
 use native.Mathlib.Omega.{arith}
 use lib.Dec.{ltb, eqb}
 use borrow.Author.Tests.{ltb-true, lt-ltb, eq-eqb, not-false}
-use Rattle.predicates.proofs.Laws.{both, or-right, not-left, true-is-not-false}
+use Rattle.predicates.proofs.Laws.{both, or-right, not-left, impossible}
 use Rattle.refusal.specs.Code.{Reason}
 use Rattle.refusal.specs.Rules.{first, unlessRefused}
 use Rattle.refusal.proofs.Laws.{cleared}
@@ -91,17 +91,17 @@ cond-fits false x y f g = g refl
 
 -- ---- small facts of statuses, links and messages
 in-is-not-out : (s : Status) → isIn s ≡ true → (isOut s ≡ false) × (isInOrDel s ≡ true)
-in-is-not-out Out h = absurd (true-is-not-false h)
-in-is-not-out Ins h = absurd (true-is-not-false h)
+in-is-not-out Out h = impossible h
+in-is-not-out Ins h = impossible h
 in-is-not-out In h = (refl, refl)
-in-is-not-out Del h = absurd (true-is-not-false h)
+in-is-not-out Del h = impossible h
 
 target-fits : (count : ℕ) (l : Link) → linked l ≡ true → linkFits count l ≡ true → ltb (target l) count ≡ true
-target-fits count Unlinked h k = absurd (true-is-not-false h)
+target-fits count Unlinked h k = impossible h
 target-fits count (To n) h k = k
 
 is-linked : (l : Link) (n : ℕ) → linksTo l n ≡ true → linked l ≡ true
-is-linked Unlinked n h = absurd (true-is-not-false h)
+is-linked Unlinked n h = impossible h
 is-linked (To m) n h = refl
 
 second-is-enough : (p q r : Bool) → (p || (q && r)) ≡ true → (p || (true && r)) ≡ true
@@ -225,11 +225,11 @@ module _ (count me : ℕ) (me-in : ltb me count ≡ true) (u : Node) (f : NodeFi
 
 -- ---- what a node that fits has: its links unless it is out, its right number while it is in or del
 link-named : (l : Link) → linked l ≡ true → l ≡ To (target l)
-link-named Unlinked h = absurd (true-is-not-false h)
+link-named Unlinked h = impossible h
 link-named (To n) h = refl
 
 seq-named : (q : Seq) → numbered q ≡ true → q ≡ Is (seqOf q)
-seq-named Unset h = absurd (true-is-not-false h)
+seq-named Unset h = impossible h
 seq-named (Is n) h = refl
 
 module _ {count : ℕ} {u : Node} (f : NodeFits count u) where

@@ -2,36 +2,28 @@
 -- Assumes nothing.
 use mathlib.Core.Path.{_≡_, refl, sym, _∙_}
 use mathlib.Core.Logic.{_⊎_, inl, inr, ⊎-elim, _↔_}
-use mathlib.Core.Bool.{Bool, true, false, _&&_, _||_, cond}
-use Prim.Native.Nat.{ℕ}
-use native.Mathlib.Omega.{arith}
+use mathlib.Core.Bool.{Bool, true, false, _&&_, _||_, cond, false≢true}
 use lib.Dec.{T}
 
-pub true-is-not-false : false ≡ true → ⊥
-true-is-not-false e = let z : _≡_ {A = ℕ} 0 1 = cc in omega arith
+-- Two constructors are never equal. Where a hypothesis says that two are, `cc` proves any equation,
+-- so `impossible cc` closes the case; where the goal is an equation itself, `cc` alone does.
+pub impossible {ℓ} : {A : Type ℓ} → false ≡ true → A
+impossible e = absurd (false≢true e)
 
 pub both : (p q : Bool) → (p && q) ≡ true → (p ≡ true) × (q ≡ true)
 both true q h = (refl, h)
-both false q h = absurd (true-is-not-false h)
+both false q h = impossible h
 
 pub or-right : (p q : Bool) → q ≡ true → (p || q) ≡ true
 or-right true q h = refl
 or-right false q h = h
 
 pub not-left : (p q : Bool) → p ≡ false → (p || q) ≡ true → q ≡ true
-not-left true q e h = absurd (true-is-not-false (sym e))
+not-left true q e h = impossible (sym e)
 not-left false q e h = h
 
-pub or-false : (p : Bool) → (p || false) ≡ p
-or-false true = refl
-or-false false = refl
-
-pub and-false : (p : Bool) → (p && false) ≡ false
-and-false true = refl
-and-false false = refl
-
 pub left-fails : (p q : Bool) → (p && q) ≡ false → q ≡ true → p ≡ false
-left-fails true q h e = absurd (true-is-not-false (sym h ∙ e))
+left-fails true q h e = impossible (sym h ∙ e)
 left-fails false q h e = refl
 
 -- what holds of both outcomes of a test holds of the choice

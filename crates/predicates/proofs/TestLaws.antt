@@ -2,7 +2,7 @@
 -- put together from parts: by going through the list. Assumes nothing.
 use mathlib.Core.Path.{_≡_, refl, sym, ap, _∙_}
 use mathlib.Core.Logic.{_⊎_, inl, inr, ⊎-elim}
-use mathlib.Core.Bool.{Bool, true, false, _&&_, _||_, and-assoc, or-assoc, and-true}
+use mathlib.Core.Bool.{Bool, true, false, _&&_, _||_, and-assoc, or-assoc, and-true, and-false, or-false}
 use mathlib.Core.List.{List, [], _∷_, _++_, List·Memᴰ, List·Memᴰ·head as here, List·Memᴰ·tail as there}
 use Prim.Native.Nat.{ℕ, zero, suc, _+_, _≤_, _<_}
 use native.Mathlib.Omega.{arith}
@@ -11,7 +11,7 @@ use lib.Dec.{T}
 use lib.ListN.{length, take, drop, getD, take-append-drop}
 use lib.Seq.{take-suc}
 use Rattle.predicates.specs.Tests.{bit, count, any, every, everyBelow}
-use Rattle.predicates.proofs.Laws.{true-is-not-false, both, or-right, and-false, or-false}
+use Rattle.predicates.proofs.Laws.{impossible, both, or-right}
 
 -- x is one of l
 infix 4 _∈_
@@ -31,7 +31,7 @@ is-true true t = refl
 is-true false t = absurd t
 
 pub not-both : {b : Bool} → b ≡ true → b ≡ false → ⊥
-not-both e f = true-is-not-false (rw f at e)
+not-both e f = impossible (rw f at e)
 
 pub bit-true : {b : Bool} → b ≡ true → bit b ≡ 1
 bit-true e = rw e
@@ -49,7 +49,7 @@ module _ {A : Type 0} (test : A → Bool) where
   none-in {x} n i = ⊎-elim (λ t. absurd (not-both (any-in i t) n)) (λ f. f) (decided (test x))
 
   pub some-in : (l : List A) → any test l ≡ true → (x : A) × (x ∈ l) × (test x ≡ true)
-  some-in [] t = absurd (true-is-not-false t)
+  some-in [] t = impossible t
   some-in (x ∷ l) t = go (test x) refl t (some-in l)
     where
       go : (b : Bool) → test x ≡ b → (b || any test l) ≡ true → (any test l ≡ true → (y : A) × (y ∈ l) × (test y ≡ true)) → (y : A) × (y ∈ (x ∷ l)) × (test y ≡ true)

@@ -1,8 +1,6 @@
 -- What an answer says fixes the answer: two that say the same are the same. So an equation of what is said leaves nothing of an answer
 -- open. Assumes nothing.
 use mathlib.Core.Path.{_≡_, ap}
-use Prim.Native.Nat.{ℕ}
-use native.Mathlib.Omega.{arith}
 use Rattle.refusal.proofs.Laws.{reason-injective}
 use Rattle.protocol.specs.declared.Answer.{Answer}
 use Rattle.protocol.specs.declared.Answer.the-variants.{Done, Refused}
@@ -10,6 +8,6 @@ use Rattle.protocol.specs.Answer.{answered}
 
 pub answered-injective : (a b : Answer) → answered a ≡ answered b → a ≡ b
 answered-injective (Done r) (Done s) e = cc
-answered-injective (Done r) (Refused s) e = let z : _≡_ {A = ℕ} 0 1 = cc in absurd (omega arith)
-answered-injective (Refused r) (Done s) e = let z : _≡_ {A = ℕ} 0 1 = cc in absurd (omega arith)
+answered-injective (Done r) (Refused s) e = cc
+answered-injective (Refused r) (Done s) e = cc
 answered-injective (Refused r) (Refused s) e = ap Refused (reason-injective r s cc)

@@ -5,9 +5,9 @@ use mathlib.Core.Logic.{_≢_}
 use mathlib.Core.Bool.{Bool}
 use mathlib.Core.List.{List}
 use Prim.Native.Nat.{ℕ}
-use native.Mathlib.Omega.{arith}
 use Rattle.sequence.specs.Sequence.{Number}
 use Rattle.predicates.specs.Tests.{any}
+use Rattle.predicates.proofs.Laws.{impossible}
 use Rattle.predicates.proofs.TestLaws.{_∈_, not-both}
 use Rattle.links.proofs.Circuit.{ring-kept, next-in}
 use Rattle.parts.specs.declared.Status.{Status}
@@ -25,13 +25,13 @@ abbrev pub Settled : Status → Type 0
 Settled s = (s ≢ Ins) × (s ≢ Del)
 
 pub settled-in : Settled In
-settled-in = (λ e. let z : _≡_ {A = ℕ} 0 1 = cc in omega arith, λ e. let z : _≡_ {A = ℕ} 0 1 = cc in omega arith)
+settled-in = (λ e. impossible cc, λ e. impossible cc)
 
 pub settled-out : Settled Out
-settled-out = (λ e. let z : _≡_ {A = ℕ} 0 1 = cc in omega arith, λ e. let z : _≡_ {A = ℕ} 0 1 = cc in omega arith)
+settled-out = (λ e. impossible cc, λ e. impossible cc)
 
 pub ins-not-del : Ins ≢ Del
-ins-not-del e = let z : _≡_ {A = ℕ} 0 1 = cc in omega arith
+ins-not-del e = impossible cc
 
 -- ---- parts of the invariant
 pub member-same : {s s′ : Status} {b b′ : Bool} → s′ ≡ s → b′ ≡ b → isInserted s′ b′ ≡ isInserted s b

@@ -3,7 +3,7 @@
 -- the rest. Assumes nothing.
 use mathlib.Core.Path.{_≡_, refl, sym, ap}
 use mathlib.Core.Logic.{_≢_}
-use mathlib.Core.Bool.{true, not}
+use mathlib.Core.Bool.{true, not, or-false}
 use mathlib.Core.List.{List, [], _∷_, _++_}
 use Prim.Native.Nat.{ℕ, _+_, _≤_, _<_}
 use native.Mathlib.Omega.{arith}
@@ -11,7 +11,7 @@ use lib.ListN.{length, length-append}
 use lib.Dec.{ltb, eqb}
 use borrow.Author.Tests.{lt-ltb, eq-eqb, ne-eqb}
 use Rattle.predicates.specs.Tests.{bit, count}
-use Rattle.predicates.proofs.Laws.{or-false, both, not-left}
+use Rattle.predicates.proofs.Laws.{both, not-left}
 use Rattle.predicates.proofs.TestLaws.{bit-true, bit-false, count-append}
 use Rattle.sequence.specs.Sequence.{Number, nextSeq, cappedNext}
 use Rattle.parts.specs.declared.Status.the-variants.{Out, In, Del}

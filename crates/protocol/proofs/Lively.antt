@@ -12,7 +12,7 @@ use lib.ListN.{length, getD}
 use lib.Dec.{ltb}
 use borrow.Author.Tests.{ltb-true, ltb-false, eq-eqb, not-true}
 use Rattle.predicates.specs.Tests.{bit, count}
-use Rattle.predicates.proofs.Laws.{true-is-not-false}
+use Rattle.predicates.proofs.Laws.{impossible}
 use Rattle.predicates.proofs.TestLaws.{decided, holds, is-true, count-append}
 use Rattle.sequence.specs.Sequence.{Number, nextSeq, cappedNext}
 use Rattle.parts.specs.declared.Kind.{Kind}
@@ -78,11 +78,11 @@ act-lowers t (takes p u a n em o new er) = rw er (gone t)
 act-lowers t (ignores p u a n em o old er) = rw er (gone t)
 
 accepted-lowers : {s : State} {call : Call} {place : ℕ} {r : Result} → call ≡ Deliver place → Accepted s call r → Lowers s r
-accepted-lowers e (declares key ec h er) = let z : _≡_ {A = ℕ} 0 1 = cc in absurd (omega arith)
-accepted-lowers e (creates u ec h er) = let z : _≡_ {A = ℕ} 0 1 = cc in absurd (omega arith)
-accepted-lowers e (asks u p q ec h er) = let z : _≡_ {A = ℕ} 0 1 = cc in absurd (omega arith)
-accepted-lowers e (goes-alone u ec h er) = let z : _≡_ {A = ℕ} 0 1 = cc in absurd (omega arith)
-accepted-lowers e (leaves u p q n ec h er) = let z : _≡_ {A = ℕ} 0 1 = cc in absurd (omega arith)
+accepted-lowers e (declares key ec h er) = impossible cc
+accepted-lowers e (creates u ec h er) = impossible cc
+accepted-lowers e (asks u p q ec h er) = impossible cc
+accepted-lowers e (goes-alone u ec h er) = impossible cc
+accepted-lowers e (leaves u p q n ec h er) = impossible cc
 accepted-lowers e (delivers place m rest ec h act) = act-lowers (h .taken) act
 
 deliver-lowers : {s : State} {place : ℕ} {r : Result} → Change s (Deliver place) r → Lowers s r
@@ -161,7 +161,7 @@ not-refused : {s : State} {place : ℕ} → WellFormed s → place < length (s .
 not-refused w h room = act-accepted (delivery w h room)
 
 not-grantable : (p : Node) (v : ℕ) (kind : Kind) → isRequest kind ≡ false → wouldGrant p v kind ≡ false
-not-grantable p v (SetR new expected number) h = absurd (true-is-not-false (sym h))
+not-grantable p v (SetR new expected number) h = impossible (sym h)
 not-grantable p v (SetRAck number) h = refl
 not-grantable p v SetRNak h = refl
 not-grantable p v (SetL left number) h = refl

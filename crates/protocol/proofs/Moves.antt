@@ -3,7 +3,7 @@
 -- here, for the calls in `Kept`. Assumes nothing.
 use mathlib.Core.Path.{_≡_, refl, sym, ap, _∙_}
 use mathlib.Core.Logic.{⊎-elim, _≢_}
-use mathlib.Core.Bool.{true, false}
+use mathlib.Core.Bool.{true, false, and-false}
 use mathlib.Core.List.{List, [], _∷_, _++_, List·Memᴰ·head as here, List·Memᴰ·tail as there, List·Memᴰ·not-nil as in-nil, List·Memᴰ·append-cases as in-part, List·Memᴰ·cases-cons as in-cons}
 use Prim.Native.Nat.{ℕ, suc, _≤_, _<_}
 use native.Mathlib.Omega.{arith}
@@ -11,7 +11,6 @@ use native.Mathlib.Decide.{ℕ-discrete}
 use lib.ListN.{length, set, length-append, length-set}
 use borrow.Author.Tests.{ltb-true, ne-eqb}
 use Rattle.predicates.specs.Tests.{count}
-use Rattle.predicates.proofs.Laws.{and-false}
 use Rattle.predicates.proofs.TestLaws.{_∈_, bit-false}
 use Rattle.parts.specs.declared.Message.{Message}
 use Rattle.parts.specs.Shape.{messageFits}

@@ -11,11 +11,11 @@ use native.Mathlib.Omega.{arith}
 use lib.ListN.{length}
 use lib.Dec.{T}
 use borrow.Author.Tests.{lt-ltb, not-false}
-use Rattle.predicates.proofs.Laws.{by-test}
+use Rattle.predicates.proofs.Laws.{impossible, by-test}
 use Rattle.predicates.proofs.TestLaws.{_∈_, holds, is-true, not-both}
 use Rattle.refusal.specs.Code.{Reason, plain}
 use Rattle.refusal.specs.Rules.{done, no, first, unlessRefused}
-use Rattle.refusal.proofs.Laws.{cleared, Never, end, other, never}
+use Rattle.refusal.proofs.Laws.{cleared, Never, never, others}
 use Rattle.serial.specs.Serial.{inRange}
 use Rattle.interval.specs.Interval.{within}
 use Rattle.interval.proofs.Laws.{Within, within-iff}
@@ -142,11 +142,11 @@ always-found calls start serial e = go (first (ownerRules s start serial)) refl 
     s = history calls .state
 
     never-31 : Never 31 (ownerRules s start serial)
-    never-31 = other refl (λ _. other refl (λ _. other refl (λ _. other refl (λ _. end))))
+    never-31 = others refl
 
     go : (o : Option Reason) → first (ownerRules s start serial) ≡ o → unlessRefused o no (walked (ownerFrom s serial (length (s .nodes)) start 0)) ≡ no (plain 31) → ⊥
     go none clear f =
         let (_, (_, (ranged, (member, _)))) = cleared (ownerRules s start serial) clear in
         let finds = owner-found calls start serial (holds (not-false (inserted s start) member)) (holds (not-false (inRange serial) ranged)) in
-        let z : _≡_ {A = ℕ} 0 1 = cc (finds .answer) in omega arith
-    go (some n) refuses f = let same : n ≡ plain 31 = cc in never never-31 (refuses ∙ ap some same)
+        impossible (cc (finds .answer))
+    go (some n) refuses f = never never-31 cc

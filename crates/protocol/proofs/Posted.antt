@@ -1,6 +1,6 @@
 -- What calls post: each two messages at most, and none where it is refused, which also leaves the network as it was; they stand at the end of
 -- the queue; and the posts of deliveries one after the other. Assumes nothing.
-use mathlib.Core.Path.{_≡_, refl, sym, ap, _∙_}
+use mathlib.Core.Path.{_≡_, refl, sym}
 use mathlib.Core.Bool.{true, false, not}
 use mathlib.Core.List.{List, [], _∷_, _++_, map, append-nil}
 use mathlib.Core.Option.{Option, none, some}
@@ -8,6 +8,7 @@ use Prim.Native.Nat.{ℕ, _+_, _*_, _≤_}
 use native.Mathlib.Omega.{arith}
 use lib.ListN.{length, length-append}
 use lib.Dec.{T}
+use Rattle.predicates.proofs.Laws.{impossible}
 use Rattle.predicates.proofs.TestLaws.{is-true}
 use Rattle.refusal.specs.Code.{Reason}
 use Rattle.refusal.specs.Rules.{no, _when_, first, unlessRefused}
@@ -56,7 +57,7 @@ pub refused-same : (s : State) (call : Call) (r : Reason) → applyOf s call .sa
 refused-same s call r e = go (change s call) e
   where
     go : {x : Result} → Change s call x → x .said ≡ no r → x ≡ refused s r
-    go (refuses n er) f = let same : n ≡ r = cc in er ∙ ap (refused s) same
+    go (refuses n er) f = cc
     go (accepts a) f = let t : T false = rw f at (accepted-said a) in absurd t
 
 pub drain-refused-same : (s : State) (budget : ℕ) (r : Reason) → drainOf s budget .said ≡ no r → drainOf s budget ≡ refused s r
@@ -64,8 +65,8 @@ unfolding drainOf
 drain-refused-same s budget r e = go (first ((6 when not (wellFormed s)) ∷ [])) e
   where
     go : (o : Option Reason) → unlessRefused o (refused s) (drained s (places budget s)) .said ≡ no r → unlessRefused o (refused s) (drained s (places budget s)) ≡ refused s r
-    go none f = let z : _≡_ {A = ℕ} 0 1 = cc in absurd (omega arith)
-    go (some n) f = let same : n ≡ r = cc in ap (refused s) same
+    go none f = impossible cc
+    go (some n) f = cc
 
 -- ---- what is posted stands at the end of the queue, behind what remains
 posts-behind : (s : State) (call : Call) → accepted (effectOf s call .said) ≡ true → effectOf s call .state .messages ≡ remaining s call (effectOf s call .said) ++ effectOf s call .posts

@@ -1,18 +1,18 @@
 -- Refusal 6 is given exactly where the network is not well formed: a node's own rule 6, which a step carries, never refuses in a
 -- well-formed network. A call never says 31. And whatever is not refused is accepted. Assumes nothing.
-use mathlib.Core.Path.{_≡_, refl, ap, _∙_}
+use mathlib.Core.Path.{_≡_, refl, ap}
 use mathlib.Core.Logic.{⊎-elim, _↔_}
 use mathlib.Core.Bool.{true, false, not, _&&_}
 use mathlib.Core.List.{List}
 use mathlib.Core.Option.{Option, none, some}
 use Prim.Native.Nat.{ℕ}
-use native.Mathlib.Omega.{arith}
 use lib.ListN.{length}
 use lib.Dec.{T}
+use Rattle.predicates.proofs.Laws.{impossible}
 use Rattle.predicates.proofs.TestLaws.{decided}
 use Rattle.refusal.specs.Code.{Reason, plain}
 use Rattle.refusal.specs.Rules.{no, first, unlessRefused}
-use Rattle.refusal.proofs.Laws.{Never, end, other, fails, never}
+use Rattle.refusal.proofs.Laws.{Never, other, fails, never, others}
 use Rattle.parts.specs.declared.Message.{Message}
 use Rattle.node.specs.Shape.{wellFormed as nodeIsSound, peerFits}
 use Rattle.node.proofs.FitLaws.{well-formed-among, peer-among}
@@ -61,16 +61,16 @@ module _ (s : State) (w : WellFormed s) where
   peer-sound p known = let k = tested-below p (length (s .nodes)) known in peer-among (w .few-nodes) (peerAt s p) k (w .node p k .key)
 
   never-six : (call : Call) → Never 6 (rulesOf s call)
-  never-six (Order (Declare key)) = fails sound (other refl (λ _. other refl (λ _. other refl (λ _. end))))
-  never-six (Order (Create u)) = fails sound (other refl (λ _. other refl (λ _. other refl (λ _. end))))
+  never-six (Order (Declare key)) = fails sound (others refl)
+  never-six (Order (Create u)) = fails sound (others refl)
   never-six (Order (Join u p q)) =
-      fails sound (other refl (λ known. other refl (λ left. other refl (λ right. fails (step known left right) (other refl (λ _. other refl (λ _. other refl (λ _. other refl (λ _. end)))))))))
+      fails sound (other refl (λ known. other refl (λ left. other refl (λ right. fails (step known left right) (others refl)))))
     where
       step : not (declared s u) ≡ false → not (declared s p) ≡ false → not (declared s q) ≡ false
           → not (nodeIsSound u (nodeAt s u) && (peerFits (peerAt s p) && peerFits (peerAt s q))) ≡ false
       step known left right = rw (node-sound u known, peer-sound p left, peer-sound q right)
-  never-six (Order (Leave u)) = fails sound (other refl (λ known. fails (ap not (node-sound u known)) (other refl (λ _. other refl (λ _. other refl (λ _. end))))))
-  never-six (Deliver place) = fails sound (other refl (λ _. other refl (λ _. end)))
+  never-six (Order (Leave u)) = fails sound (other refl (λ known. fails (ap not (node-sound u known)) (others refl)))
+  never-six (Deliver place) = fails sound (others refl)
 
 -- ---- a number that no rule of a call gives is not said
 pub never-said : (s : State) (call : Call) {n : ℕ} → Never n (rulesOf s call) → ¬ (applyOf s call .said ≡ no (plain n))
@@ -79,19 +79,18 @@ never-said s call {n} t e = go (first (rulesOf s call)) refl e
   where
     go : (o : Option Reason) → first (rulesOf s call) ≡ o → ¬ (unlessRefused o (refused s) (effectOf s call) .said ≡ no (plain n))
     go none clear f = let u : T false = rw f at (accepted-said (accepted-case s call clear)) in u
-    go (some r) refuses f = let same : r ≡ plain n = cc in never t (refuses ∙ ap some same)
+    go (some r) refuses f = never t cc
 
 -- 31 is a question's
 pub calls-never-31 : (s : State) (call : Call) → ¬ (applyOf s call .said ≡ no (plain 31))
 calls-never-31 s call = never-said s call (rules call)
   where
     rules : (call : Call) → Never 31 (rulesOf s call)
-    rules (Order (Declare key)) = other refl (λ _. other refl (λ _. other refl (λ _. other refl (λ _. end))))
-    rules (Order (Create u)) = other refl (λ _. other refl (λ _. other refl (λ _. other refl (λ _. end))))
-    rules (Order (Join u p q)) =
-        other refl (λ _. other refl (λ _. other refl (λ _. other refl (λ _. other refl (λ _. other refl (λ _. other refl (λ _. other refl (λ _. other refl (λ _. end)))))))))
-    rules (Order (Leave u)) = other refl (λ _. other refl (λ _. other refl (λ _. other refl (λ _. other refl (λ _. other refl (λ _. end))))))
-    rules (Deliver place) = other refl (λ _. other refl (λ _. other refl (λ _. end)))
+    rules (Order (Declare key)) = others refl
+    rules (Order (Create u)) = others refl
+    rules (Order (Join u p q)) = others refl
+    rules (Order (Leave u)) = others refl
+    rules (Deliver place) = others refl
 
 -- ---- so 6 says that the network is not well formed, and nothing else
 first-six : (s : State) (call : Call) → wellFormed s ≡ false → first (rulesOf s call) ≡ some (plain 6)
@@ -111,14 +110,12 @@ unfolding ownerOf
 owner-never-six s w start serial e = go (first (ownerRules s start serial)) refl e
   where
     rules : Never 6 (ownerRules s start serial)
-    rules = fails (sound s w) (other refl (λ _. other refl (λ _. other refl (λ _. end))))
+    rules = fails (sound s w) (others refl)
 
     walk : (x : Walk) → ¬ (walked x ≡ no (plain 6))
-    walk (found u hops) f = let z : _≡_ {A = ℕ} 0 1 = cc in omega arith
-    walk lost f = let z : _≡_ {A = ℕ} 31 6 = cc in omega arith
+    walk (found u hops) f = impossible cc
+    walk lost f = impossible cc
 
     go : (o : Option Reason) → first (ownerRules s start serial) ≡ o → ¬ (unlessRefused o no (walked (ownerFrom s serial (length (s .nodes)) start 0)) ≡ no (plain 6))
     go none clear f = walk (ownerFrom s serial (length (s .nodes)) start 0) f
-    go (some r) refuses f =
-        let same : r ≡ plain 6 = cc in
-        never rules (refuses ∙ ap some same)
+    go (some r) refuses f = never rules cc

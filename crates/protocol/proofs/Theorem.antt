@@ -10,7 +10,7 @@ use native.Mathlib.Decide.{ℕ-discrete}
 use lib.ListN.{length}
 use borrow.Author.Tests.{eq-eqb, eqb-true}
 use Rattle.predicates.specs.Tests.{any}
-use Rattle.predicates.proofs.Laws.{true-is-not-false}
+use Rattle.predicates.proofs.Laws.{impossible}
 use Rattle.predicates.proofs.TestLaws.{_∈_, holds, is-true, not-both, none-in, some-in}
 use mathlib.Core.List.{List·Memᴰ·not-nil as in-none}
 use Rattle.sequence.proofs.Laws.{first-fits}
@@ -61,9 +61,9 @@ good-start = record {
     order = record {
       order = [];
       ring = no-ring;
-      members = λ u. (λ i. absurd (in-none i), λ t. absurd (true-is-not-false t));
+      members = λ u. (λ i. absurd (in-none i), λ t. impossible t);
       as-told = λ u. refl;
-      lefts = λ v u R t. absurd (true-is-not-false t);
+      lefts = λ v u R t. impossible t;
     };
   };
 }
@@ -86,10 +86,10 @@ ack-from : (u : ℕ) (m : Message) → isAckTo u m ≡ true → (w : ℕ) × (n 
 ack-from u m t = go (m .kind) (m .sender) (m .to) t
   where
     go : (kind : Kind) (v p : ℕ) → isAckTo u (record { sender = v; to = p; kind = kind }) ≡ true → (w : ℕ) × (n : ℕ) × (record { sender = v; to = p; kind = kind } ≡ setRAck w u n)
-    go (SetR new e n) v p t = absurd (true-is-not-false t)
+    go (SetR new e n) v p t = impossible t
     go (SetRAck n) v p t = (v, n, ap (λ q. setRAck v q n) (eqb-true p u t))
-    go SetRNak v p t = absurd (true-is-not-false t)
-    go (SetL a n) v p t = absurd (true-is-not-false t)
+    go SetRNak v p t = impossible t
+    go (SetL a n) v p t = impossible t
 
 module _ {s : State} {told joins : ℕ → Bool} (w : WellFormed s) (inv : Invariant (nodeAt s) (s .messages) told joins) where
   -- an inserted node keeps a number for its right link

@@ -1,11 +1,10 @@
 -- Laws of refusals: each has a number of its own, so a number names its refusal; rules after other rules; what it shows that no rule refuses,
 -- and that a number is not given. Assumes nothing.
 use mathlib.Core.Path.{_≡_, refl, sym, ap, _∙_}
-use mathlib.Core.Bool.{Bool, true, false, cond}
+use mathlib.Core.Bool.{Bool, true, false, _||_, cond, true≢false}
 use mathlib.Core.List.{List, [], _∷_, _++_}
-use mathlib.Core.Option.{none, some}
+use mathlib.Core.Option.{none, some, Option·none-ne-some, Option·some-ne-none}
 use Prim.Native.Nat.{ℕ, _-_}
-use native.Mathlib.Omega.{arith}
 use lib.ListN.{getD}
 use lib.Dec.{ltb, eqb}
 use borrow.Author.Tests.{eqb-false}
@@ -65,7 +64,7 @@ Cleared (rule r refuses ∷ rules) = (refuses ≡ false) × Cleared rules
 
 pub cleared : (rules : List Rule) → first rules ≡ none → Cleared rules
 cleared [] e = tt
-cleared (rule r true ∷ rules) e = let z : _≡_ {A = ℕ} 0 1 = cc in absurd (omega arith)
+cleared (rule r true ∷ rules) e = absurd (Option·some-ne-none r e)
 cleared (rule r false ∷ rules) e = (refl, cleared rules e)
 
 -- ---- a number that is not given: each rule has another, or its condition does not hold where no rule before it refuses
@@ -75,10 +74,23 @@ pub data Never (n : ℕ) : List Rule → Type 0 where
   fails : {m : ℕ} {refuses : Bool} {rules : List Rule} → refuses ≡ false → Never n rules → Never n (rule (plain m) refuses ∷ rules)
 
 pub never : {n : ℕ} {rules : List Rule} → Never n rules → first rules ≡ some (plain n) → ⊥
-never end e = let z : _≡_ {A = ℕ} 0 1 = cc in omega arith
+never end e = Option·none-ne-some _ e
 never {n} (other {m} {refuses} {rules} d t) e = go refuses refl (λ f. never (t f))
   where
     go : (b : Bool) → refuses ≡ b → (refuses ≡ false → first rules ≡ some (plain n) → ⊥) → ⊥
     go true f later = let given : some (plain m) ≡ some (plain n) = rw f at e in let same : m ≡ n = cc in eqb-false m n d same
     go false f later = later f (rw f at e)
 never (fails f t) e = never t (rw f at e)
+
+-- where no rule has the number, which is computed, it is not given
+abbrev pub gives : ℕ → List Rule → Bool
+gives n [] = false
+gives n (rule (plain m) refuses ∷ rules) = eqb m n || gives n rules
+
+pub others : {n : ℕ} {rules : List Rule} → gives n rules ≡ false → Never n rules
+others {rules = []} e = end
+others {n} {rules = rule (plain m) refuses ∷ rules} e = go (eqb m n) refl e others
+  where
+    go : (b : Bool) → eqb m n ≡ b → (b || gives n rules) ≡ false → (gives n rules ≡ false → Never n rules) → Never n (rule (plain m) refuses ∷ rules)
+    go true d f later = absurd (true≢false f)
+    go false d f later = other d (λ _. later f)

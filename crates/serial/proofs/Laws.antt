@@ -8,7 +8,7 @@ use native.Mathlib.Nat.{mul-le-mul-right, pow-suc}
 use lib.ListN.{length}
 use lib.Dec.{leb, eqb}
 use borrow.Author.Tests.{leb-true, le-leb}
-use Rattle.predicates.proofs.Laws.{both}
+use Rattle.predicates.proofs.Laws.{impossible, both}
 use Rattle.refusal.specs.Code.{plain}
 use Rattle.refusal.specs.Rules.{Coded, done, no, _when_, ruled}
 use Rattle.serial.specs.declared.Serial.{Serial}
@@ -61,7 +61,7 @@ passed false v n wrong d e = absurd (d e)
 -- whatever form it came in, a serial that is read is in range
 pub handed-in-range : (v n : ℕ) → handedOf v ≡ Value n → inRange n ≡ true
 handed-in-range v n h =
-    let (ok, e) = passed (inRange v) v n TooLarge (λ f. let z : _≡_ {A = ℕ} 0 1 = cc in omega arith) h in
+    let (ok, e) = passed (inRange v) v n TooLarge (λ f. impossible cc) h in
     rw (← e) ok
 
 pub binary-in-range : (bytes : List ℕ) (n : ℕ) → binaryOf bytes ≡ Value n → inRange n ≡ true
@@ -70,5 +70,5 @@ binary-in-range bytes n h = handed-in-range (positional 256 (reverse bytes)) n h
 pub packed-in-range : (a b c d n : ℕ) → packedOf (a ∷ b ∷ c ∷ d ∷ []) ≡ Value n → inRange n ≡ true
 packed-in-range a b c d n h =
     let ds = digits (a ∷ b ∷ c ∷ d ∷ []) in
-    let (ok, e) = passed (allDecimal ds) (positional 10 ds) n BadDigit (λ f. let z : _≡_ {A = ℕ} 0 1 = cc in omega arith) h in
+    let (ok, e) = passed (allDecimal ds) (positional 10 ds) n BadDigit (λ f. impossible cc) h in
     le-leb n 99_999_999 (omega (arith, decimal-bound ds ok))

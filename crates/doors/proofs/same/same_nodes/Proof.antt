@@ -1,28 +1,13 @@
--- `doors::same::same_nodes` is safe and ends: the place stays within the arrays. Assumes nothing.
+-- `doors::same::same_nodes` is safe and ends: the measure is the number of places that are left.
+-- Assumes nothing.
 use borrow.Author.Needs.{needs}
-use Prim.Native.Nat.{_-_, _≤_}
+use Prim.Native.Nat.{_-_}
 use Rattle.doors.proofs.same.same_nodes.Statement.{statement}
 use Rattle.doors.proofs.same.same_nodes.Tie as tie
-
-abbrev Inv-loop : tie.InvT-loop
-Inv-loop a b same₀ i₀ same i = i ≤ 32
-
-abbrev μ-loop : tie.MeasureT-loop
-μ-loop a b same₀ i₀ same i = 32 - i
 
 pub same-nodes-spec : {M : Type 1} → statement M
 same-nodes-spec =
     tie.close
-    (tie.spec
-    Inv-loop
-    μ-loop
-    (λ c. search needs)
-    (λ c. search needs)
-    (λ c. search needs)
-    (λ c. search needs)
-    (λ c. search needs)
-    (λ c κs. search needs)
-    (λ c. search needs)
-    (λ c. search needs)
-    (λ c. search needs)
-    (λ c. search needs))
+    (tie.spec (λ _ _ _ _ _ _. Unit {0}) (λ _ _ _ _ _ i. 32 - i) (λ c. search needs) (λ c. search needs)
+    (λ c. search needs) (λ c. search needs) (λ c. search needs) (λ c κs. search needs) (λ c. search needs)
+    (λ c. search needs) (λ c. search needs) (λ c. search needs))
