@@ -1,5 +1,5 @@
 // What nodes do where messages come late, overtake each other, or find their node changed. No script has an answer dropped: none waits for a node that
-// is out or in (R2.6).
+// is out or in (R2.7).
 use crate::show;
 use model::sheet::Sheet;
 

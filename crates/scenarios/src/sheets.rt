@@ -54,7 +54,7 @@ pub(crate) fn wrong_serial_form(run: &mut Sheet) {
     );
 }
 
-// R4.1, R3.2, R5.1 to R5.8, R5.10, R7.1, refusal 30: each message of a join and of a leave, and who owns what before and after.
+// R4.1, R3.2, R5.1, R5.2, R5.3, R5.4, R5.5, R5.6, R5.7, R5.8, R5.10, R7.1, refusal 30: each message of a join and of a leave, and who owns what before and after.
 pub(crate) fn join_and_leave(run: &mut Sheet) {
     show(
         run,

@@ -4,7 +4,7 @@ use crate::show;
 use model::sheet::Sheet;
 
 pub(crate) fn orders(run: &mut Sheet) {
-    // R2.3, R6.5, refusal 21: the same key in another form.
+    // R2.4, R6.5, refusal 21: the same key in another form.
     show(
         run,
         b"no 21: a key that is taken",
@@ -81,7 +81,7 @@ pub(crate) fn orders(run: &mut Sheet) {
     );
 }
 
-// R6.7 to R6.9, R5.3, refusal 28: nodes 22 and 23 ask to join, and 64 messages wait: a join of node 24, a leave of node 0 and the delivery of the request
+// R6.7, R6.8, R6.9, R5.3, refusal 28: nodes 22 and 23 ask to join, and 64 messages wait: a join of node 24, a leave of node 0 and the delivery of the request
 // of 22 are refused. Then node 1 leaves, the last that had joined; 64 wait again, and node 0, now alone, leaves too.
 pub(crate) fn full_queue(run: &mut Sheet) {
     let mut script = io::buffer();
@@ -130,7 +130,7 @@ pub(crate) fn intervals(run: &mut Sheet) {
     );
 }
 
-// R6.1, R6.3, R6.6 to R6.8: with 64 messages waiting, among them a notice for node 20, which is out, a record meets several refusals at once, as the join of
+// R6.1, R6.3, R6.6, R6.7, R6.8: with 64 messages waiting, among them a notice for node 20, which is out, a record meets several refusals at once, as the join of
 // node 20 between 1 and 0 meets 24, 25 and 28, and the first is told.
 pub(crate) fn first_of_several(run: &mut Sheet) {
     let mut script = io::buffer();
