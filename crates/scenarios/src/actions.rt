@@ -1,14 +1,14 @@
 // What nodes do where messages come late, overtake each other, or find their node changed. No script has an answer dropped: none waits for a node that
 // is out or in (R2.7).
-use crate::show;
+use crate::scene;
 use model::sheet::Sheet;
 
 pub(crate) fn notices(run: &mut Sheet) {
     // R5.6, R5.7, R5.12: three nodes come in on the left of node 0, one behind the other. Each notice is newer, so that node 0 asks the last of them.
-    show(
+    scene(
         run,
-        b"each newer notice is taken",
-        b"BC\x00\x00\x10\x00\
+        b"each newer notice is taken\n\
+          BC\x00\x00\x10\x00\
           BC\x00\x00\x20\x00\
           BC\x00\x00\x30\x00\
           BC\x00\x00\x40\x00\
@@ -19,10 +19,10 @@ pub(crate) fn notices(run: &mut Sheet) {
           LV\x00DL\x00",
     );
     // R5.12: the second notice overtakes the first, which then changes nothing, so that node 0 asks node 2.
-    show(
+    scene(
         run,
-        b"a notice that comes late is old",
-        b"BC\x00\x00\x10\x00\
+        b"a notice that comes late is old\n\
+          BC\x00\x00\x10\x00\
           BC\x00\x00\x20\x00\
           BC\x00\x00\x30\x00\
           CR\x00\
@@ -33,14 +33,11 @@ pub(crate) fn notices(run: &mut Sheet) {
           DL\x00\
           LV\x00DL\x00",
     );
-}
-
-pub(crate) fn second_times(run: &mut Sheet) {
     // R5.2, R1.5: node 1 leaves with the left number 1 and joins with it again. So the notice of 2's leave has 2 and is taken, and node 1 asks node 0.
-    show(
+    scene(
         run,
-        b"a second join sends its left number, and later notices are taken",
-        b"BC\x00\x00\x10\x00\
+        b"a second join sends its left number, and later notices are taken\n\
+          BC\x00\x00\x10\x00\
           BC\x00\x00\x30\x00\
           BC\x00\x00\x20\x00\
           CR\x00\
@@ -52,10 +49,10 @@ pub(crate) fn second_times(run: &mut Sheet) {
           LV\x01DL\x00",
     );
     // R5.1, R5.3: node 0 has the left number 2 when it leaves alone. Created again it has the first numbers, and a notice with 1 is newer.
-    show(
+    scene(
         run,
-        b"a second creation begins with the first numbers",
-        b"BC\x00\x00\x10\x00\
+        b"a second creation begins with the first numbers\n\
+          BC\x00\x00\x10\x00\
           BC\x00\x00\x20\x00\
           CR\x00\
           JN\x01\x00\x00RD\xff\xff\
@@ -68,10 +65,10 @@ pub(crate) fn second_times(run: &mut Sheet) {
 
 pub(crate) fn drops(run: &mut Sheet) {
     // R5.13: node 0 leaves alone before the request of node 1 comes. Node 1 goes on waiting for an answer.
-    show(
+    scene(
         run,
-        b"a request to a node that is out is dropped",
-        b"BC\x00\x00\x10\x00\
+        b"a request to a node that is out is dropped\n\
+          BC\x00\x00\x10\x00\
           BC\x00\x00\x20\x00\
           CR\x00\
           JN\x01\x00\x00\
@@ -81,10 +78,10 @@ pub(crate) fn drops(run: &mut Sheet) {
           CR\x00",
     );
     // R5.13, R4.1: node 2 asks node 1 to let it go, but that is gone when the request comes. Node 2 stays inserted.
-    show(
+    scene(
         run,
-        b"a request to leave finds its node gone and is dropped",
-        b"BC\x00\x00\x10\x00\
+        b"a request to leave finds its node gone and is dropped\n\
+          BC\x00\x00\x10\x00\
           BC\x00\x00\x20\x00\
           BC\x00\x00\x30\x00\
           CR\x00\
@@ -97,10 +94,10 @@ pub(crate) fn drops(run: &mut Sheet) {
           LV\x02",
     );
     // R5.13: node 0 leaves alone before it hears that node 1 came and went, and can be created again once both notices are dropped.
-    show(
+    scene(
         run,
-        b"notices to a node that is out are dropped",
-        b"BC\x00\x00\x10\x00\
+        b"notices to a node that is out are dropped\n\
+          BC\x00\x00\x10\x00\
           BC\x00\x00\x20\x00\
           CR\x00\
           JN\x01\x00\x00DL\x00DL\x01\
@@ -114,10 +111,10 @@ pub(crate) fn drops(run: &mut Sheet) {
 
 pub(crate) fn denials(run: &mut Sheet) {
     // R5.5, R5.9, R5.11: each asks the other, and neither is in when it is asked; both are in again, and one of them may leave.
-    show(
+    scene(
         run,
-        b"two neighbours leave at once, and both are denied",
-        b"BC\x00\x00\x10\x00\
+        b"two neighbours leave at once, and both are denied\n\
+          BC\x00\x00\x10\x00\
           BC\x00\x00\x20\x00\
           CR\x00\
           JN\x01\x00\x00RD\xff\xff\
@@ -127,10 +124,10 @@ pub(crate) fn denials(run: &mut Sheet) {
           LV\x01DL\x00",
     );
     // R5.5, R5.11: node 1 is leaving when node 2 asks it, and node 2 is out again.
-    show(
+    scene(
         run,
-        b"a join is denied by a node that is leaving",
-        b"BC\x00\x00\x10\x00\
+        b"a join is denied by a node that is leaving\n\
+          BC\x00\x00\x10\x00\
           BC\x00\x00\x20\x00\
           BC\x00\x00\x30\x00\
           CR\x00\
@@ -141,10 +138,10 @@ pub(crate) fn denials(run: &mut Sheet) {
           JN\x02\x00\x00RD\xff\xff",
     );
     // R5.5: node 1 asks node 0, on whose right is node 2 by now; then node 2, which has not heard that it is in; then node 2 once more.
-    show(
+    scene(
         run,
-        b"a leave is denied by a former left neighbour, and by one that is still joining",
-        b"BC\x00\x00\x10\x00\
+        b"a leave is denied by a former left neighbour, and by one that is still joining\n\
+          BC\x00\x00\x10\x00\
           BC\x00\x00\x30\x00\
           BC\x00\x00\x20\x00\
           CR\x00\

@@ -1,9 +1,12 @@
 // The parts of scripts that are long because they repeat: all 32 nodes are declared, many of them join, and some leave again, while most of the
 // messages that this posts go on waiting. Each function puts records into a script, and answers the place after them.
+use crate::line_end;
+use crate::show;
+use model::sheet::Sheet;
 ghost use Prim.Native.Nat.{_≤_};
 ghost use Rattle.io.specs.Counts.{Counts};
 
-pub(crate) fn put(script: &mut [u8; 4096], at: usize, records: &[u8]) -> usize
+fn put(script: &mut [u8; 4096], at: usize, records: &[u8]) -> usize
     requires { ⌜ Counts at (now script) ⌝ }
     ensures { λ r. ⌜ Counts r (now (script .exit)) ⌝ }
 {
@@ -50,14 +53,25 @@ fn leave_again(script: &mut [u8; 4096], at: usize, last: u8, leavers: u8) -> usi
     at
 }
 
-// RD delivers just the requests to join. Then 2 * joiners messages wait: of node i the left notice to its right at 2 * i - 2, and the answer at
-// 2 * i - 1. After the leaves 2 * joiners + leavers wait.
-pub(crate) fn join_and_leave(script: &mut [u8; 4096], joiners: u8, leavers: u8) -> usize
-    requires { ⌜ (leavers ≤ joiners) × (joiners ≤ 31) ⌝ }
-    ensures { λ r. ⌜ Counts r (now (script .exit)) ⌝ }
+// Shows a script that begins with the records put so far, and goes on with those behind a title.
+pub(crate) fn show_on(run: &mut Sheet, script: [u8; 4096], at: usize, text: &[u8])
+    requires { ⌜ Counts at script ⌝ }
 {
-    let at = declare_all(script);
-    let at = ask_all(script, at, joiners);
-    let at = put(script, at, &[b'R', b'D', joiners, 0]);
-    leave_again(script, at, joiners, leavers)
+    let mut script = script;
+    let start = line_end(text);
+    let used = put(&mut script, at, &text[start..]);
+    show(run, &text[0..start], &script[..used]);
+}
+
+// Shows a script that begins with joins and leaves. RD delivers just the requests to join. Then 2 * joiners messages wait: of node i the left notice to
+// its right at 2 * i - 2, and the answer at 2 * i - 1. After the leaves 2 * joiners + leavers wait.
+pub(crate) fn scene_after(run: &mut Sheet, joiners: u8, leavers: u8, text: &[u8])
+    requires { ⌜ (leavers ≤ joiners) × (joiners ≤ 31) ⌝ }
+{
+    let mut script = io::buffer();
+    let at = declare_all(&mut script);
+    let at = ask_all(&mut script, at, joiners);
+    let at = put(&mut script, at, &[b'R', b'D', joiners, 0]);
+    let at = leave_again(&mut script, at, joiners, leavers);
+    show_on(run, script, at, text);
 }

@@ -1,44 +1,45 @@
 // The refusals from the input. Only 1 and 2 stop the reading: after each of the others but 7 a later record is done (R9.5).
 ghost use mathlib.Core.Path.{_≡_};
 ghost use lib.ListN.{length};
+use crate::scene;
 use crate::show;
 use model::sheet::Sheet;
 
 pub(crate) fn marks(run: &mut Sheet) {
     // R9.7, R9.8, R1.8: the first line and the last.
-    show(run, b"the empty script", b"");
+    scene(run, b"the empty script\n");
     // R9.2, R9.5, refusal 1: the declaration after it is not read.
-    show(
+    scene(
         run,
-        b"no 1: an unknown mark ends the reading",
-        b"BC\x00\x00\x10\x00\
+        b"no 1: an unknown mark ends the reading\n\
+          BC\x00\x00\x10\x00\
           XX\
           BC\x00\x00\x20\x00",
     );
     // R9.2, refusal 1: small letters make no mark.
-    show(run, b"no 1: a mark in lower case", b"bc\x00\x00\x10\x00");
+    scene(run, b"no 1: a mark in lower case\nbc\x00\x00\x10\x00");
     // R9.5, refusal 2: what is left of the script is too short for a mark.
-    show(
+    scene(
         run,
-        b"no 2: one byte of a mark",
-        b"BC\x00\x00\x10\x00\
+        b"no 2: one byte of a mark\n\
+          BC\x00\x00\x10\x00\
           B",
     );
     // R9.5, refusal 2: what is left of the script is too short for the fields.
-    show(
+    scene(
         run,
-        b"no 2: a record without its last byte",
-        b"BC\x00\x00\x10\x00\
+        b"no 2: a record without its last byte\n\
+          BC\x00\x00\x10\x00\
           BC\x00\x00\x20",
     );
 }
 
 pub(crate) fn fields(run: &mut Sheet) {
     // R9.4, R9.6, refusal 3: the first digit and the last, of a declaration and of a question.
-    show(
+    scene(
         run,
-        b"no 3: a digit above 9",
-        b"BC\xa0\x00\x00\x00\
+        b"no 3: a digit above 9\n\
+          BC\xa0\x00\x00\x00\
           BC\x00\x00\x00\x0a\
           BC\x00\x00\x10\x00\
           CR\x00\
@@ -46,20 +47,20 @@ pub(crate) fn fields(run: &mut Sheet) {
           OC\x00\x00\x00\x00\x09",
     );
     // R1.1, R9.4, refusal 4: one too many and the highest, of a declaration and of a question.
-    show(
+    scene(
         run,
-        b"no 4: a serial above 99,999,999",
-        b"BN\x00\xe1\xf5\x05\
+        b"no 4: a serial above 99,999,999\n\
+          BN\x00\xe1\xf5\x05\
           BN\xff\xe0\xf5\x05\
           CR\x00\
           ON\x00\x00\xe1\xf5\x05\
           ON\x00\xff\xe0\xf5\x05",
     );
     // R6.5, R6.6, R6.7, R6.8, R7.3, refusal 5: each field that names a node, and a question with a digit above 9 as well: the start comes first.
-    show(
+    scene(
         run,
-        b"no 5: node 2 is not declared",
-        b"BC\x00\x00\x10\x00\
+        b"no 5: node 2 is not declared\n\
+          BC\x00\x00\x10\x00\
           BC\x00\x00\x20\x00\
           CR\x02\
           JN\x02\x00\x00\
@@ -71,14 +72,11 @@ pub(crate) fn fields(run: &mut Sheet) {
           OC\x02\x00\x00\x00\x0a\
           CR\x00",
     );
-}
-
-// R7.3, R9.6, refusals 5, 3, 4 and 30: node 1 is not declared, node 0 is and is out; the serial has a digit above 9, is too large, or is right.
-pub(crate) fn questions(run: &mut Sheet) {
-    show(
+    // R7.3, R9.6, refusals 5, 3, 4 and 30: node 1 is not declared, node 0 is and is out; the serial has a digit above 9, is too large, or is right.
+    scene(
         run,
-        b"no 5: an undeclared start, before 3 and 4 of its serial, and these before 30",
-        b"BC\x00\x00\x10\x00\
+        b"no 5: an undeclared start, before 3 and 4 of its serial, and these before 30\n\
+          BC\x00\x00\x10\x00\
           OC\x01\x00\x00\x00\x0a\
           ON\x01\x00\xe1\xf5\x05\
           OC\x00\x00\x00\x00\x0a\
@@ -99,8 +97,8 @@ fn long_buffer() -> [u8; 65537]
 pub(crate) fn sizes(run: &mut Sheet) {
     let mut too_long = long_buffer();
     text::append(&mut too_long, 0, b"BC\x00\x00\x10\x00");
-    show(run, b"no 7: 65,537 bytes", &too_long);
+    show(run, b"no 7: 65,537 bytes\n", &too_long);
     let mut longest = io::large_buffer();
     text::append(&mut longest, 0, b"BC\x00\x00\x10\x00");
-    show(run, b"65,536 bytes are read", &longest);
+    show(run, b"65,536 bytes are read\n", &longest);
 }

@@ -4,6 +4,9 @@
 //
 // The refusals 6, 27 and 31 have no script. Every network that a script makes is well formed (6), and from every inserted node of it an owner is
 // found (31). The highest right number rises by one at most with each join or leave, and no script has room for 65,535 of them (27).
+ghost use Prim.Native.Nat.{_≤_};
+ghost use lib.ListN.{length};
+
 mod actions;
 mod crowd;
 mod drains;
@@ -23,17 +26,18 @@ const SCRIPTS: usize = 0;
 
 const DIFFERENT: usize = 1;
 
+fn write_count(count: usize, what: &[u8]) {
+    io::print_decimal(1, count as u64);
+    io::write_all(1, what);
+}
+
 // Counts a script, and says where its printouts differ, if they do.
 fn enter(run: &mut Sheet, place: usize) {
     add(run, RUN, SCRIPTS, 1);
     if place > 0 {
         add(run, RUN, DIFFERENT, 1);
-        io::write_all(
-            1,
-            b"== differs from the second implementation, first at byte ",
-        );
-        io::print_decimal(1, place as u64);
-        io::write_all(1, b"\n");
+        io::write_all(1, b"== the second implementation differs at byte ");
+        write_count(place, b"\n");
     }
 }
 
@@ -43,18 +47,36 @@ pub(crate) fn show(run: &mut Sheet, title: &[u8], script: &[u8]) {
     let used = engine::printout(script, &mut text);
     io::write_all(1, b"== ");
     io::write_all(1, title);
-    io::write_all(1, b"\n");
     io::write_all(1, &text[..used]);
     let place = first_difference(run, script, &text, used);
     enter(run, place);
 }
 
+// The place after the first line end, or after the text.
+pub(crate) fn line_end(text: &[u8]) -> usize
+    ensures { λ r. ⌜ r ≤ length (now (text .entry)) ⌝ }
+{
+    for at in 0..text.len() {
+        if text[at] == b'\n' {
+            return at + 1;
+        }
+    }
+    text.len()
+}
+
+// Shows a script that stands behind its title, from the next line on.
+pub(crate) fn scene(run: &mut Sheet, text: &[u8]) {
+    let start = line_end(text);
+    show(run, &text[0..start], &text[start..]);
+}
+
 fn summary(run: &Sheet) {
     io::write_all(1, b"== ");
-    io::print_decimal(1, get(run, RUN, SCRIPTS) as u64);
-    io::write_all(1, b" scripts, ");
-    io::print_decimal(1, get(run, RUN, DIFFERENT) as u64);
-    io::write_all(1, b" differ from the second implementation\n");
+    write_count(get(run, RUN, SCRIPTS), b" scripts, ");
+    write_count(
+        get(run, RUN, DIFFERENT),
+        b" differ from the second implementation\n",
+    );
 }
 
 fn main() {
@@ -62,22 +84,14 @@ fn main() {
     fitter::cases(&mut run);
     input::marks(&mut run);
     input::fields(&mut run);
-    input::questions(&mut run);
     input::sizes(&mut run);
     state::orders(&mut run);
-    state::intervals(&mut run);
-    state::full_queue(&mut run);
-    state::first_of_several(&mut run);
+    state::full_queues(&mut run);
     state::deliveries_and_questions(&mut run);
     actions::notices(&mut run);
-    actions::second_times(&mut run);
     actions::drops(&mut run);
     actions::denials(&mut run);
-    drains::budgets(&mut run);
-    drains::refused_place(&mut run);
-    sheets::paper(&mut run);
-    sheets::wrong_serial_form(&mut run);
-    sheets::join_and_leave(&mut run);
-    sheets::four_at_once(&mut run);
+    drains::cases(&mut run);
+    sheets::all(&mut run);
     summary(&run);
 }

@@ -1,14 +1,14 @@
 // The sheets of the folder `examples`, one record to a line. There each record has a comment that says what it does, and beside each sheet stands its
 // printout, which is the same.
-use crate::show;
+use crate::scene;
 use model::sheet::Sheet;
 
-// R5.5, R5.9, R5.11: node 0 asks to leave before it has heard of its left neighbour, and so asks and denies itself.
-pub(crate) fn paper(run: &mut Sheet) {
-    show(
+pub(crate) fn all(run: &mut Sheet) {
+    // R5.5, R5.9, R5.11: node 0 asks to leave before it has heard of its left neighbour, and so asks and denies itself.
+    scene(
         run,
-        b"paper",
-        b"BC\x00\x00\x10\x00\
+        b"paper\n\
+          BC\x00\x00\x10\x00\
           BN\xd0\x07\x00\x00\
           CR\x00\
           JN\x01\x00\x00\
@@ -21,14 +21,11 @@ pub(crate) fn paper(run: &mut Sheet) {
           OC\x00\x00\x00\x09\x99\
           DL\x00",
     );
-}
-
-// R9.4, R1.1, refusals 3, 4, 5 and 21: the two forms of a serial, taken for each other.
-pub(crate) fn wrong_serial_form(run: &mut Sheet) {
-    show(
+    // R9.4, R1.1, refusals 3, 4, 5 and 21: the two forms of a serial, taken for each other.
+    scene(
         run,
-        b"wrong-serial-form",
-        b"BC\x00\x00\x12\x34\
+        b"wrong-serial-form\n\
+          BC\x00\x00\x12\x34\
           BN\x00\x00\x12\x34\
           BN\x34\x12\x00\x00\
           BN\xd2\x04\x00\x00\
@@ -52,14 +49,11 @@ pub(crate) fn wrong_serial_form(run: &mut Sheet) {
           OC\x00\x00\x00\x00\x0a\
           OC\x09\x00\x00\x00\x0a",
     );
-}
-
-// R4.1, R3.2, R5.1, R5.2, R5.3, R5.4, R5.5, R5.6, R5.7, R5.8, R5.10, R7.1, refusal 30: each message of a join and of a leave, and who owns what before and after.
-pub(crate) fn join_and_leave(run: &mut Sheet) {
-    show(
+    // R4.1, R3.2, R5.1, R5.2, R5.3, R5.4, R5.5, R5.6, R5.7, R5.8, R5.10, R7.1, refusal 30: each message of a join and of a leave, and who owns what before and after.
+    scene(
         run,
-        b"join-and-leave",
-        b"BC\x00\x00\x10\x00\
+        b"join-and-leave\n\
+          BC\x00\x00\x10\x00\
           BC\x00\x00\x20\x00\
           CR\x00\
           OC\x00\x00\x00\x25\x00\
@@ -84,14 +78,11 @@ pub(crate) fn join_and_leave(run: &mut Sheet) {
           LV\x00\
           OC\x00\x00\x00\x25\x00",
     );
-}
-
-// R5.5, R5.9, R5.11, R5.12, R6.9, R7.1, refusals 23 and 29: one of four requests is granted, and messages are delivered out of order.
-pub(crate) fn four_at_once(run: &mut Sheet) {
-    show(
+    // R5.5, R5.9, R5.11, R5.12, R6.9, R7.1, refusals 23 and 29: one of four requests is granted, and messages are delivered out of order.
+    scene(
         run,
-        b"four-at-once",
-        b"BC\x00\x00\x10\x00\
+        b"four-at-once\n\
+          BC\x00\x00\x10\x00\
           BC\x00\x00\x20\x00\
           BC\x00\x00\x30\x00\
           BC\x00\x00\x40\x00\
