@@ -11,7 +11,7 @@ use Rattle.refusal.specs.Code.{Reason, plain}
 use Rattle.refusal.specs.Rules.{Coded, done as replied, no}
 use native.Mathlib.Omega.{arith}
 use native.Mathlib.Nat.{mod-eq-of-lt}
-use Rattle.text.specs.Text.{pasted, placeAfter}
+use Rattle.text.specs.Buffers.{pasted, placeAfter}
 use Rattle.text.proofs.Laws.{place-after, take-pasted}
 use Rattle.network.specs.declared.Network.{Network}
 use Rattle.network.specs.Arrays.{live, wellFormed}
@@ -22,7 +22,8 @@ use Rattle.script.proofs.Laws.{before-end}
 use Rattle.protocol.specs.declared.Reply.{Reply}
 use Rattle.report.specs.declared.Report.{Report}
 use Rattle.protocol.specs.Answer.{answered}
-use Rattle.printout.specs.Lines.{heading, lineOf, lastLine, Printed}
+use Rattle.printout.specs.Lines.{heading, lineOf, lastLine}
+use Rattle.printout.specs.Writing.{Printed}
 use Rattle.printout.proofs.Laws.{printed-short, printed-there}
 use Rattle.progress.specs.declared.Progress.{Progress}
 use Rattle.progress.specs.Leaving.{postedAfter, Leaves, Refuses}

@@ -1,4 +1,5 @@
--- How far the code has come in a run, as the definition says it. Definitions only.
+-- No rules stand here: it is how far the code has come in a run, read off its network, its progress
+-- and its text in the words of the definition. Definitions only.
 use Prim.Native.Nat.{ℕ}
 use mathlib.Core.List.{List}
 use lib.ListN.{take}

@@ -1,4 +1,5 @@
--- What a step posts, as the list of its messages in their order. Definitions only.
+-- No rules stand here: it is what the code posts in a step, as the list of its messages in their
+-- order. Definitions only.
 use mathlib.Core.List.{List, [], _∷_}
 use Rattle.parts.specs.declared.Message.{Message}
 use Rattle.parts.specs.declared.Posts.{Posts}

@@ -13,15 +13,16 @@ use borrow.Author.Tests.{le-leb, lt-leb, leb-true, ltb-true, ltb-false}
 use Rattle.predicates.proofs.Laws.{by-test}
 use Rattle.refusal.specs.Code.{plain}
 use Rattle.refusal.specs.Rules.{Coded, done, no}
-use Rattle.text.specs.Text.{ascii, decimal, Put}
+use Rattle.text.specs.Text.{ascii, decimal}
+use Rattle.text.specs.Buffers.{Put}
 use Rattle.text.proofs.Laws.{place-at-most, place-after, pasted-whole, put-both, put-four, put-keeps-length}
 use Rattle.text.proofs.DecimalLaws.{few-digits}
 use Rattle.node.specs.declared.Outcome.{Outcome}
 use Rattle.node.specs.declared.Outcome.the-variants.{Created, Waiting, LeftAlone, Granted, Denied, Joined, Gone, JoinDenied, LeaveDenied, LeftSet, LeftOld, Dropped}
 use Rattle.protocol.specs.declared.Reply.{Reply}
 use Rattle.protocol.specs.declared.Reply.the-variants.{Stepped}
-use Rattle.printout.specs.Lines.{pair, words, ending, lineOf, lastLine, hasRoom, Printed, Ended}
-use Rattle.printout.specs.Items.{Item, LastItem}
+use Rattle.printout.specs.Lines.{pair, words, lineOf, lastLine}
+use Rattle.printout.specs.Writing.{Item, LastItem, hasRoom, Printed, ending, Ended}
 
 -- ---- no line has more than forty bytes, and what follows its ordinal no more than thirty
 pub short-outcome : (o : Outcome) → length (ending (done (Stepped o))) ≤ 30

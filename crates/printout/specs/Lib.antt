@@ -1,2 +1,2 @@
 pub mod Lines
-pub mod Items
+pub mod Writing

@@ -5,8 +5,8 @@ ghost use lib.ListN.{length};
 ghost use Rattle.refusal.specs.Code.{reason};
 ghost use Rattle.refusal.specs.Rules.{done, no};
 ghost use Rattle.protocol.specs.declared.Reply.the-variants.{Declared, Owner, Ran};
-ghost use Rattle.printout.specs.Lines.{lineOf, lastLine, Ended, Printed};
-ghost use Rattle.printout.specs.Items.{Item, LastItem};
+ghost use Rattle.printout.specs.Lines.{lineOf, lastLine};
+ghost use Rattle.printout.specs.Writing.{Item, LastItem, Ended, Printed};
 use protocol::Reply;
 use refusal::Refusal;
 

@@ -13,7 +13,8 @@ use Rattle.protocol.specs.declared.Answer.the-variants.{Done, Refused}
 use Rattle.protocol.specs.declared.Reply.{Reply}
 use Rattle.protocol.specs.Answer.{answered}
 use Rattle.report.specs.declared.Report.{Report}
-use Rattle.printout.specs.Lines.{lineOf, lastLine, Printed}
+use Rattle.printout.specs.Lines.{lineOf, lastLine}
+use Rattle.printout.specs.Writing.{Printed}
 use Rattle.progress.specs.declared.Progress.{Progress}
 
 -- the refusal in an answer; of one that is done it is not asked for

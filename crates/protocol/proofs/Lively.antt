@@ -28,7 +28,7 @@ use Rattle.parts.specs.Tests.{isRequest}
 use Rattle.protocol.specs.Calls.{Result, isFull, messageAt, isGrantable, applyOf}
 use Rattle.protocol.specs.Answer.{accepted}
 use Rattle.protocol.specs.Claim.{Delivers, delivered, load, Lively, SteadyClaim}
-use Rattle.protocol.proofs.Waiting.{exchanges-most, Taken, taken}
+use Rattle.protocol.proofs.Waiting.{exchanges-most, Taken}
 use Rattle.protocol.proofs.Facts.{WellFormed, well-formed, tested}
 use Rattle.protocol.proofs.Changes.{Act, drops, lets-in, lets-go, denies, joins, goes, stays-out, stays-in, takes, ignores}
 use Rattle.protocol.proofs.Changes.{Accepted, declares, creates, asks, goes-alone, leaves, delivers, Change, refuses, accepts}

@@ -8,7 +8,7 @@ use native.Mathlib.Numerals.{add-one}
 use native.Mathlib.Nat.{le-antisymm}
 use lib.ListN.{length, getD, set}
 use lib.Seq.{paste, paste-zero, paste-suc, length-paste}
-use Rattle.text.specs.Text.{pasted}
+use Rattle.text.specs.Buffers.{pasted}
 use Rattle.text.proofs.Laws.{pasted-whole}
 
 -- the first i bytes of a piece are in place, in a buffer that has room for all

@@ -9,7 +9,7 @@ use lib.ListN.{length, take, drop, length-append}
 use lib.Seq.{paste, length-paste, take-paste, drop-paste, take-length, drop-drop}
 use borrow.Author.Tests.{le-leb, lt-leb, leb-true}
 use Rattle.predicates.proofs.Laws.{by-test}
-use Rattle.text.specs.Text.{fits, pasted, placeAfter, Put}
+use Rattle.text.specs.Buffers.{fits, pasted, placeAfter, Put}
 
 -- ---- where a piece does not fit
 module _ (buffer : List ℕ) (at : ℕ) (piece : List ℕ) (full : length buffer < at + length piece) where

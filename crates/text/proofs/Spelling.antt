@@ -8,7 +8,8 @@ use native.Mathlib.Nat.{add-zero, add-suc, mod-lt, mod-eq-of-lt}
 use lib.ListN.{length, take, drop, set, length-append, length-set}
 use lib.Seq.{paste, paste-zero, set-split, drop-at, take-all, take-set-le, length-take-le, append-snoc}
 use Rattle.io.specs.Digits.{digits, Fewest}
-use Rattle.text.specs.Text.{decimal, digit, pasted, placeAfter}
+use Rattle.text.specs.Text.{decimal, digit}
+use Rattle.text.specs.Buffers.{pasted, placeAfter}
 use Rattle.text.proofs.Laws.{place-after, pasted-whole, no-place, not-pasted}
 use Rattle.text.proofs.DecimalLaws.{glyph-digit, fewest-decimal}
 

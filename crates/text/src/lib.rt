@@ -4,7 +4,8 @@ ghost use mathlib.Core.Path.{_≡_};
 ghost use Prim.Native.Nat.{_+_};
 ghost use lib.Dec.{ltb};
 ghost use Rattle.io.specs.Digits.{Fewest};
-ghost use Rattle.text.specs.Text.{pasted, placeAfter, decimal};
+ghost use Rattle.text.specs.Text.{decimal};
+ghost use Rattle.text.specs.Buffers.{pasted, placeAfter};
 
 // Whether so many bytes find no room in a buffer of this size, from place `at` on.
 pub fn lacks_room(size: usize, at: usize, bytes: usize) -> bool

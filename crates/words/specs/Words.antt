@@ -1,6 +1,6 @@
 -- R9.7: what the printout calls an outcome of section 5 of docs/RULES.md. Definitions only.
 use Prim.Native.Nat.{ℕ}
-use mathlib.Core.List.{List, _++_}
+use mathlib.Core.List.{List}
 use Rattle.text.specs.Text.{ascii}
 use Rattle.node.specs.declared.Outcome.{Outcome}
 use Rattle.node.specs.declared.Outcome.the-variants.{Created, Waiting, LeftAlone, Granted, Denied, Joined, Gone, JoinDenied, LeaveDenied, LeftSet, LeftOld, Dropped}
@@ -18,7 +18,3 @@ outcomeWord LeaveDenied = ascii "leave-denied"
 outcomeWord LeftSet = ascii "left-set"
 outcomeWord LeftOld = ascii "left-old"
 outcomeWord Dropped = ascii "dropped"
-
--- the word as it ends a line
-abbrev pub outcomeEnding : Outcome → List ℕ
-outcomeEnding o = ascii " " ++ outcomeWord o ++ ascii "\n"

@@ -1,6 +1,6 @@
 // The words for what a step did (R9.7), put into a text. A word is put with the space before it and the line end after it, as one constant.
-ghost use Rattle.text.specs.Text.{Put};
-ghost use Rattle.words.specs.Words.{outcomeEnding};
+ghost use Rattle.text.specs.Buffers.{Put};
+ghost use Rattle.words.specs.Endings.{outcomeEnding};
 use node::Outcome;
 
 // Puts the word for an outcome from place `at` on, and answers the place after it.

@@ -5,7 +5,7 @@ use Rattle.interval.proofs.is_within.Tie as tie
 
 returns : tie.Need-returns
 unfolding within
-returns c = simp (c .is-between .ensures)
+returns c = cc
 
 pub is-within-spec : {M : Type 1} → statement M
 is-within-spec = tie.close (tie.spec (λ c κs. tt) returns)

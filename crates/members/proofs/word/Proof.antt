@@ -22,9 +22,6 @@ Inv-loop nodes messages count waiting word₀ i₀ word i = (i ≤ count) × (wo
 abbrev μ-loop : tie.MeasureT-loop
 μ-loop nodes messages count waiting word₀ i₀ word i = count - i
 
-loop-holds : tie.Need-loop-holds Inv-loop μ-loop
-loop-holds c = (omega arith, refl)
-
 -- a node that is met is one of the 32
 small : (c : tie.In-loop Inv-loop μ-loop) → c .before .loop .i < capacity
 small c =
@@ -60,20 +57,7 @@ returns c =
 pub word-spec : {M : Type 1} → statement M
 word-spec =
     tie.close
-    (tie.spec
-    Inv-loop
-    μ-loop
-    (λ c κs. tt)
-    (λ c κs. tt)
-    loop-holds
-    (λ c. search needs)
-    (λ c. search needs)
-    (λ c. omega (arith, small c))
-    small
-    is-inserted-requires
-    (λ c. omega (arith, small (c .before .before .before)))
-    (λ c. small (c .before .before .before))
-    (λ c. omega (arith, small (c .before .before .before)))
-    (λ c. search needs)
-    loop-again
-    returns)
+    (tie.spec Inv-loop μ-loop (λ c κs. tt) (λ c κs. tt) (λ c. (omega arith, refl)) (λ c. search needs)
+    (λ c. search needs) (λ c. omega (arith, small c)) small is-inserted-requires
+    (λ c. omega (arith, small (c .before .before .before))) (λ c. small (c .before .before .before))
+    (λ c. omega (arith, small (c .before .before .before))) (λ c. search needs) loop-again returns)

@@ -8,22 +8,8 @@ use Rattle.owners.proofs.owner_of_record.Tie as tie
 returns : tie.Need-returns
 returns c = let read = c .before .before in let start = read .before .before in c .owner .ensures ∙ ap (ownerAsked (start .args .network) (start .args .start)) (sym (read .serial .given .1))
 
-returns-2 : tie.Need-returns-2
-returns-2 c = let read = c .before in let start = read .before .before in c .refuse-serial .ensures ∙ ap (ownerAsked (start .args .network) (start .args .start)) (sym (read .enum-told .given .1))
-
-returns-3 : tie.Need-returns-3
-returns-3 c = let read = c .before in let start = read .before .before in c .refuse-serial2 .ensures ∙ ap (ownerAsked (start .args .network) (start .args .start)) (sym (read .enum-told2 .given .1))
-
 pub owner-of-record-spec : {M : Type 1} → statement M
 owner-of-record-spec =
     tie.close
-    (tie.spec
-    (λ c. search needs)
-    (λ c κs. search needs)
-    (λ c. search needs)
-    (λ c κs. search needs)
-    (λ c. search needs)
-    (λ c κs. search needs)
-    returns
-    returns-2
-    returns-3)
+    (tie.spec (λ c. search needs) (λ c κs. search needs) (λ c. search needs) (λ c κs. search needs) (λ c. search needs)
+    (λ c κs. search needs) returns (λ c. cc) (λ c. cc))

@@ -19,12 +19,5 @@ whole c =
 pub last-line-spec : {M : Type 1} → statement M
 last-line-spec =
     tie.close
-    (tie.spec
-    (λ c κs. tt)
-    (λ c. not-printed (full (c .before .lacks-room .ensures) (c .if1 .taken)))
-    (λ c. refl)
-    (λ c κs. tt)
-    (λ c. refl)
-    (λ c κs. tt)
-    (λ c. printed-keeps-length (whole c))
-    whole)
+    (tie.spec (λ c κs. tt) (λ c. not-printed (full (c .before .lacks-room .ensures) (c .if1 .taken))) (λ c. refl)
+    (λ c κs. tt) (λ c. refl) (λ c κs. tt) (λ c. printed-keeps-length (whole c)) whole)

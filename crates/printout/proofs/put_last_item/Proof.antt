@@ -12,4 +12,6 @@ whole c =
     record { between = _; place = _; item = item .put-item .ensures; end = put (end .append .ensures) }
 
 pub put-last-item-spec : {M : Type 1} → statement M
-put-last-item-spec = tie.close (tie.spec (λ c κs. tt) (λ c. refl) (λ c κs. tt) (λ c. last-item-keeps-length (whole c)) whole)
+put-last-item-spec =
+    tie.close
+    (tie.spec (λ c κs. tt) (λ c. refl) (λ c κs. tt) (λ c. last-item-keeps-length (whole c)) whole)

@@ -28,25 +28,9 @@ returns-5 c =
 pub put-reply-spec : {M : Type 1} → statement M
 put-reply-spec =
     tie.close
-    (tie.spec
-    (λ c. search needs)
-    (λ c κs. c .before .before .before .before .before .pre)
-    (λ c. search needs)
-    (λ c κs. tt)
-    (λ c. search needs)
-    (λ c κs. c .before .before .before .before .before .pre)
-    (λ c. search needs)
-    (λ c κs. c .before .before .before .before .before .pre)
-    (λ c. search needs)
-    (λ c. refl)
-    (λ c κs. tt)
-    (λ c. put-keeps-length (returns c .put))
-    returns
-    (λ c. put-keeps-length (returns-2 c .put))
-    returns-2
-    (λ c. put-keeps-length (returns-3 c .put))
-    returns-3
-    (λ c. put-keeps-length (returns-4 c .put))
-    returns-4
-    (λ c. put-keeps-length (returns-5 c .put))
-    returns-5)
+    (tie.spec (λ c. search needs) (λ c κs. c .before .before .before .before .before .pre) (λ c. search needs)
+    (λ c κs. tt) (λ c. search needs) (λ c κs. c .before .before .before .before .before .pre) (λ c. search needs)
+    (λ c κs. c .before .before .before .before .before .pre) (λ c. search needs) (λ c. refl) (λ c κs. tt)
+    (λ c. put-keeps-length (returns c .put)) returns (λ c. put-keeps-length (returns-2 c .put)) returns-2
+    (λ c. put-keeps-length (returns-3 c .put)) returns-3 (λ c. put-keeps-length (returns-4 c .put)) returns-4
+    (λ c. put-keeps-length (returns-5 c .put)) returns-5)

@@ -21,13 +21,5 @@ whole c =
 pub refusal-line-spec : {M : Type 1} → statement M
 refusal-line-spec =
     tie.close
-    (tie.spec
-    (λ c κs. tt)
-    (λ c. not-printed (full (c .before .lacks-room .ensures) (c .if1 .taken)))
-    (λ c κs. tt)
-    (λ c. refl)
-    (λ c κs. tt)
-    (λ c. search needs)
-    (λ c κs. tt)
-    (λ c. printed-keeps-length (whole c))
-    whole)
+    (tie.spec (λ c κs. tt) (λ c. not-printed (full (c .before .lacks-room .ensures) (c .if1 .taken))) (λ c κs. tt)
+    (λ c. refl) (λ c κs. tt) (λ c. search needs) (λ c κs. tt) (λ c. printed-keeps-length (whole c)) whole)

@@ -22,10 +22,5 @@ whole c =
 pub reply-line-spec : {M : Type 1} → statement M
 reply-line-spec =
     tie.close
-    (tie.spec
-    (λ c κs. tt)
-    (λ c. not-printed (full (c .before .lacks-room .ensures) (c .if1 .taken)))
-    (λ c κs. tt)
-    put-reply-requires
-    (λ c. printed-keeps-length (whole c))
-    whole)
+    (tie.spec (λ c κs. tt) (λ c. not-printed (full (c .before .lacks-room .ensures) (c .if1 .taken))) (λ c κs. tt)
+    put-reply-requires (λ c. printed-keeps-length (whole c)) whole)

@@ -9,7 +9,8 @@ use Rattle.protocol.specs.declared.Answer.{Answer}
 use Rattle.protocol.specs.declared.Answer.the-variants.{Refused}
 use Rattle.protocol.specs.declared.Reply.{Reply}
 use Rattle.protocol.specs.Answer.{answered}
-use Rattle.printout.specs.Lines.{lineOf, Printed}
+use Rattle.printout.specs.Lines.{lineOf}
+use Rattle.printout.specs.Writing.{Printed}
 use Rattle.progress.specs.Leaving.{refusalIn}
 use Rattle.progress.proofs.leave_record.Statement.{statement}
 use Rattle.progress.proofs.leave_record.Tie as tie
@@ -50,13 +51,5 @@ returns-2 c =
 pub leave-record-spec : {M : Type 1} → statement M
 leave-record-spec =
     tie.close
-    (tie.spec
-    (λ c κs. search needs)
-    (λ c. search needs)
-    (λ c. search needs)
-    (λ c κs. tt)
-    (λ c κs. tt)
-    returns
-    (λ c κs. tt)
-    (λ c κs. search needs)
-    returns-2)
+    (tie.spec (λ c κs. search needs) (λ c. search needs) (λ c. search needs) (λ c κs. tt) (λ c κs. tt) returns
+    (λ c κs. tt) (λ c κs. search needs) returns-2)

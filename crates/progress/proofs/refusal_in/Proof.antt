@@ -6,4 +6,6 @@ use Rattle.progress.proofs.refusal_in.Tie as tie
 
 pub refusal-in-spec : {M : Type 1} → statement M
 refusal-in-spec =
-    tie.close (tie.spec (λ c. search needs) (λ c. search needs) (λ c. rw (c .enum-told .given .1) refl) (λ c. rw (c .before .answer .given .1) refl))
+    tie.close
+    (tie.spec (λ c. search needs) (λ c. search needs) (λ c. cc)
+    (λ c. rw (c .before .answer .given .1) refl))

@@ -6,4 +6,5 @@ use Rattle.script.proofs.binary_at.Tie as tie
 pub binary-at-spec : {M : Type 1} → statement M
 binary-at-spec =
     tie.close
-    (tie.spec (λ c κs. tt) (λ c. search needs) (λ c κs. tt) (λ c. search needs) (λ c κs. tt) (λ c. search needs) (λ c κs. tt) (λ c κs. tt) (λ c. cc))
+    (tie.spec (λ c κs. tt) (λ c. search needs) (λ c κs. tt) (λ c. search needs) (λ c κs. tt) (λ c. search needs)
+    (λ c κs. tt) (λ c κs. tt) (λ c. cc))

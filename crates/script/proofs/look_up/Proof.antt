@@ -32,10 +32,7 @@ unmarked c =
 pub look-up-spec : {M : Type 1} → statement M
 look-up-spec =
     tie.close
-    (tie.spec
-    (λ c. omega arith)
-    (λ c. omega arith)
-    (λ c. marked (c .before) 0x42 0x43 (omega arith) (c .match .keys1))
+    (tie.spec (λ c. omega arith) (λ c. omega arith) (λ c. marked (c .before) 0x42 0x43 (omega arith) (c .match .keys1))
     (λ c. marked (c .before) 0x42 0x4e (omega arith) (c .match .keys2))
     (λ c. marked (c .before) 0x43 0x52 (omega arith) (c .match .keys3))
     (λ c. marked (c .before) 0x4a 0x4e (omega arith) (c .match .keys4))
@@ -43,5 +40,4 @@ look-up-spec =
     (λ c. marked (c .before) 0x44 0x4c (omega arith) (c .match .keys6))
     (λ c. marked (c .before) 0x4f 0x43 (omega arith) (c .match .keys7))
     (λ c. marked (c .before) 0x4f 0x4e (omega arith) (c .match .keys8))
-    (λ c. marked (c .before) 0x52 0x44 (omega arith) (c .match .keys9))
-    unmarked)
+    (λ c. marked (c .before) 0x52 0x44 (omega arith) (c .match .keys9)) unmarked)

@@ -43,23 +43,6 @@ returns-5 c =
 pub read-spec : {M : Type 1} → statement M
 read-spec =
     tie.close
-    (tie.spec
-    returns
-    (λ c. search needs)
-    returns-2
-    (λ c. search needs)
-    (λ c. search needs)
-    (λ c. search needs)
-    (λ c. search needs)
-    (λ c κs. tt)
-    (λ c. search needs)
-    (λ c. search needs)
-    returns-3
-    (λ c κs. tt)
-    (λ c. search needs)
-    (λ c. search needs)
-    (λ c. search needs)
-    (λ c κs. tt)
-    (λ c. search needs)
-    returns-4
-    returns-5)
+    (tie.spec returns (λ c. search needs) returns-2 (λ c. search needs) (λ c. search needs) (λ c. search needs)
+    (λ c. search needs) (λ c κs. tt) (λ c. search needs) (λ c. search needs) returns-3 (λ c κs. tt) (λ c. search needs)
+    (λ c. search needs) (λ c. search needs) (λ c κs. tt) (λ c. search needs) returns-4 returns-5)

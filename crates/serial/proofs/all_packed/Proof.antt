@@ -8,6 +8,4 @@ returns c =
     simp (c .before .before .before .is-packed .ensures, c .before .before .is-packed2 .ensures, c .before .is-packed3 .ensures, c .is-packed4 .ensures, and-assoc)
 
 pub all-packed-spec : {M : Type 1} → statement M
-all-packed-spec =
-    tie.close
-    (tie.spec (λ c κs. tt) (λ c κs. tt) (λ c κs. tt) (λ c κs. tt) returns)
+all-packed-spec = tie.close (tie.spec (λ c κs. tt) (λ c κs. tt) (λ c κs. tt) (λ c κs. tt) returns)

@@ -4,9 +4,6 @@ use borrow.Author.Needs.{needs}
 use Rattle.serial.proofs.handed.Statement.{statement}
 use Rattle.serial.proofs.handed.Tie as tie
 
-in-range-requires : tie.Need-in-range-requires
-in-range-requires c κs = search needs
-
 returns : tie.Need-returns
 returns c = simp (sym (c .before .in-range .ensures) ∙ c .if1 .taken)
 
@@ -14,4 +11,4 @@ returns-2 : tie.Need-returns-2
 returns-2 c = simp (sym (c .before .in-range .ensures) ∙ c .if1 .left)
 
 pub handed-spec : {M : Type 1} → statement M
-handed-spec = tie.close (tie.spec in-range-requires returns returns-2)
+handed-spec = tie.close (tie.spec (λ c κs. search needs) returns returns-2)

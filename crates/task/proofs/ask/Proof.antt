@@ -23,9 +23,4 @@ returns c =
     subst (λ (r : Read). Asks size r (c .asked-by .result)) (read .read .ensures) (asks size (read .read .result) (c .asked-by .result) (c .asked-by .ensures))
 
 pub ask-spec : {M : Type 1} → statement M
-ask-spec =
-    tie.close
-    (tie.spec
-    (λ c κs. search needs)
-    (λ c κs. search needs)
-    returns)
+ask-spec = tie.close (tie.spec (λ c κs. search needs) (λ c κs. search needs) returns)

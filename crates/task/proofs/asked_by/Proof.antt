@@ -24,11 +24,5 @@ returns-3 c = of-equal (c .before .before .before .before .args .size) _ _ (c .b
 pub asked-by-spec : {M : Type 1} → statement M
 asked-by-spec =
     tie.close
-    (tie.spec
-    (λ c. search needs)
-    (λ c. search needs)
-    (λ c. search needs)
-    (λ c κs. search needs)
-    returns
-    returns-2
+    (tie.spec (λ c. search needs) (λ c. search needs) (λ c. search needs) (λ c κs. search needs) returns returns-2
     returns-3)

@@ -47,25 +47,6 @@ returns-3 c = all-spelled (c .before .before .before .before .digits-of .ensures
 pub append-decimal-spec : {M : Type 1} → statement M
 append-decimal-spec =
     tie.close
-    (tie.spec
-    Inv-loop
-    μ-loop
-    (λ c κs. tt)
-    returns
-    (λ c. omega arith)
-    returns-2
-    sub-i
-    loop-holds
-    (λ c. omega arith)
-    (λ c. omega arith)
-    (λ c. omega arith)
-    slice-write-buffer
-    (λ c. omega arith)
-    (λ c. omega arith)
-    loop-again
-    cast-buffer-2
-    add-buffer-3
-    slice-write-buffer-2
-    (λ c. omega arith)
-    same-length
-    returns-3)
+    (tie.spec Inv-loop μ-loop (λ c κs. tt) returns (λ c. omega arith) returns-2 sub-i loop-holds (λ c. omega arith)
+    (λ c. omega arith) (λ c. omega arith) slice-write-buffer (λ c. omega arith) (λ c. omega arith) loop-again
+    cast-buffer-2 add-buffer-3 slice-write-buffer-2 (λ c. omega arith) same-length returns-3)

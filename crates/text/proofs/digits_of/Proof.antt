@@ -6,14 +6,9 @@ use Rattle.text.proofs.digits_of.Tie as tie
 pub digits-of-spec : {M : Type 1} → statement M
 digits-of-spec =
     tie.close
-    (tie.spec
-    (λ c. (omega arith, omega arith, λ more. omega arith))
-    (λ c. (omega arith, omega arith, λ more. omega arith))
-    (λ c. (omega arith, omega arith, λ more. omega arith))
-    (λ c. (omega arith, omega arith, λ more. omega arith))
-    (λ c. (omega arith, omega arith, λ more. omega arith))
-    (λ c. (omega arith, omega arith, λ more. omega arith))
-    (λ c. (omega arith, omega arith, λ more. omega arith))
-    (λ c. (omega arith, omega arith, λ more. omega arith))
-    (λ c. (omega arith, omega arith, λ more. omega arith))
+    (tie.spec (λ c. (omega arith, omega arith, λ more. omega arith))
+    (λ c. (omega arith, omega arith, λ more. omega arith)) (λ c. (omega arith, omega arith, λ more. omega arith))
+    (λ c. (omega arith, omega arith, λ more. omega arith)) (λ c. (omega arith, omega arith, λ more. omega arith))
+    (λ c. (omega arith, omega arith, λ more. omega arith)) (λ c. (omega arith, omega arith, λ more. omega arith))
+    (λ c. (omega arith, omega arith, λ more. omega arith)) (λ c. (omega arith, omega arith, λ more. omega arith))
     (λ c. (omega arith, omega arith, λ more. omega arith)))

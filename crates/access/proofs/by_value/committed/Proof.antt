@@ -14,14 +14,9 @@ left c k e = fitted (c .before .args .network) (c .before .args .change) k (sym 
 pub committed-spec : {M : Type 1} → statement M
 committed-spec =
     tie.close
-    (tie.spec
-    (λ c κs. search needs)
-    (λ c. search needs)
-    (λ c. search needs)
-    (λ c κs. left (c .before .before .before) _ (c .before .node .given .1) .finds)
-    (λ c. search needs)
-    (λ c κs. left (c .before .before .before) _ (c .before .number .given .1) .finds)
-    (λ c. search needs)
+    (tie.spec (λ c κs. search needs) (λ c. search needs) (λ c. search needs)
+    (λ c κs. left (c .before .before .before) _ (c .before .node .given .1) .finds) (λ c. search needs)
+    (λ c κs. left (c .before .before .before) _ (c .before .number .given .1) .finds) (λ c. search needs)
     (λ c κs. left (c .before .before .before) _ (c .before .place .given .1) .finds)
     (λ c. left (c .before .before) _ (c .enum-told .given .1) .comes)
     (λ c. c .add .ensures ∙ left (c .before .before .before .before) _ (c .before .before .node .given .1) .comes)

@@ -15,9 +15,4 @@ returns-2 c = c .refuse .ensures ∙ ap counted (sym (malformed _ _ (sym (c .bef
 pub apply-spec : {M : Type 1} → statement M
 apply-spec =
     tie.close
-    (tie.spec
-    (λ c κs. search needs)
-    apply-requires
-    (λ c κs. search needs)
-    (λ c. search needs)
-    returns-2)
+    (tie.spec (λ c κs. search needs) apply-requires (λ c κs. search needs) (λ c. search needs) returns-2)

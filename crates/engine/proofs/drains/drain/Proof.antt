@@ -15,9 +15,4 @@ returns-2 c = c .refuse .ensures ∙ ap counted (sym (malformed-drain _ _ (sym (
 pub drain-spec : {M : Type 1} → statement M
 drain-spec =
     tie.close
-    (tie.spec
-    (λ c κs. search needs)
-    drain-requires
-    (λ c κs. search needs)
-    (λ c. search needs)
-    returns-2)
+    (tie.spec (λ c κs. search needs) drain-requires (λ c κs. search needs) (λ c. search needs) returns-2)

@@ -30,10 +30,4 @@ returns-2 c =
 pub printout-spec : {M : Type 1} → statement M
 printout-spec =
     tie.close
-    (tie.spec
-    (λ c. search needs)
-    (λ c κs. search needs)
-    (λ c κs. search needs)
-    run-requires
-    returns
-    returns-2)
+    (tie.spec (λ c. search needs) (λ c κs. search needs) (λ c κs. search needs) run-requires returns returns-2)

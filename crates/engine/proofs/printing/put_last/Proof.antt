@@ -10,4 +10,6 @@ returns c =
     line-there (printed .before .before .before .pre) (printed .last-line .ensures)
 
 pub put-last-spec : {M : Type 1} → statement M
-put-last-spec = tie.close (tie.spec (λ c κs. tt) (λ c. printed-keeps-length (c .before .before .last-line .ensures)) returns)
+put-last-spec =
+    tie.close
+    (tie.spec (λ c κs. tt) (λ c. printed-keeps-length (c .before .before .last-line .ensures)) returns)

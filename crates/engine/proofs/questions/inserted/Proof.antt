@@ -20,10 +20,4 @@ returns-2 c =
     rw h (c .inserted .ensures ∙ inserted-told (start .args .network) (lengths _ _ (start .good .0)) h)
 
 pub inserted-spec : {M : Type 1} → statement M
-inserted-spec =
-    tie.close
-    (tie.spec
-    (λ c κs. search needs)
-    returns
-    (λ c κs. search needs)
-    returns-2)
+inserted-spec = tie.close (tie.spec (λ c κs. search needs) returns (λ c κs. search needs) returns-2)

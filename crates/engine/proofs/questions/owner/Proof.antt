@@ -19,10 +19,4 @@ unfolding ownerOf
 returns-2 c = rw (sym (c .before .is-well-formed .ensures) ∙ c .if1 .left)
 
 pub owner-spec : {M : Type 1} → statement M
-owner-spec =
-    tie.close
-    (tie.spec
-    (λ c κs. search needs)
-    (λ c κs. search needs)
-    returns
-    returns-2)
+owner-spec = tie.close (tie.spec (λ c κs. search needs) (λ c κs. search needs) returns returns-2)

@@ -18,9 +18,4 @@ returns c =
     ∙ decides n (lengths _ _ (start .good .0)) (start .pre) (start .args .call)
 
 pub apply-spec : {M : Type 1} → statement M
-apply-spec =
-    tie.close
-    (tie.spec
-    (λ c κs. search needs)
-    (λ c κs. search needs)
-    returns)
+apply-spec = tie.close (tie.spec (λ c κs. search needs) (λ c κs. search needs) returns)

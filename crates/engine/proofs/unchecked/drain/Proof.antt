@@ -58,15 +58,5 @@ returns c =
 pub drain-spec : {M : Type 1} → statement M
 drain-spec =
     tie.close
-    (tie.spec
-    Inv-loop
-    μ-loop
-    loop-holds
-    (λ c κs. search needs)
-    (λ c κs. search needs)
-    apply-requires
-    (λ c κs. search needs)
-    loop-less
-    loop-again
-    (λ c κs. search needs)
-    returns)
+    (tie.spec Inv-loop μ-loop loop-holds (λ c κs. search needs) (λ c κs. search needs) apply-requires
+    (λ c κs. search needs) loop-less loop-again (λ c κs. search needs) returns)

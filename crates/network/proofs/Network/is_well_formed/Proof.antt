@@ -66,15 +66,5 @@ returns-3 c =
 pub is-well-formed-spec : {M : Type 1} → statement M
 is-well-formed-spec =
     tie.close
-    (tie.spec
-    returns
-    (λ c. search needs)
-    (λ c. search needs)
-    (λ c κs. tt)
-    (λ c κs. tt)
-    returns-2
-    (λ c κs. tt)
-    keys-differ-requires
-    (λ c κs. tt)
-    exchanges-fit-requires
-    returns-3)
+    (tie.spec returns (λ c. search needs) (λ c. search needs) (λ c κs. tt) (λ c κs. tt) returns-2 (λ c κs. tt)
+    keys-differ-requires (λ c κs. tt) exchanges-fit-requires returns-3)

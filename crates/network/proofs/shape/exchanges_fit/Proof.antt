@@ -93,21 +93,6 @@ returns-2 c =
 pub exchanges-fit-spec : {M : Type 1} → statement M
 exchanges-fit-spec =
     tie.close
-    (tie.spec
-    Inv-loop
-    μ-loop
-    loop-holds
-    (λ c. search needs)
-    (λ c. search needs)
-    (λ c κs. tt)
-    (λ c. search needs)
-    cast-at
-    in-allowances
-    returns
-    (λ c. search needs)
-    array-write-left
-    (λ c. search needs)
-    (λ c. search needs)
-    (λ c. search needs)
-    loop-again
-    returns-2)
+    (tie.spec Inv-loop μ-loop loop-holds (λ c. search needs) (λ c. search needs) (λ c κs. tt) (λ c. search needs)
+    cast-at in-allowances returns (λ c. search needs) array-write-left (λ c. search needs) (λ c. search needs)
+    (λ c. search needs) loop-again returns-2)

@@ -24,13 +24,4 @@ returns-2 c =
     c .join-unchecked .ensures ∙ join-tested (u .me) (u .self) (u .left) (u .right) (test ∙ c .before .if1 .left)
 
 pub join-spec : {M : Type 1} → statement M
-join-spec =
-    tie.close
-    (tie.spec
-    (λ c κs. tt)
-    (λ c κs. tt)
-    (λ c κs. tt)
-    (λ c κs. tt)
-    returns
-    (λ c κs. tt)
-    returns-2)
+join-spec = tie.close (tie.spec (λ c κs. tt) (λ c κs. tt) (λ c κs. tt) (λ c κs. tt) returns (λ c κs. tt) returns-2)

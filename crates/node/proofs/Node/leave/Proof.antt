@@ -19,11 +19,4 @@ returns-2 c =
     c .leave-unchecked .ensures ∙ leave-tested (u .me) (u .self) (ap not (sym (tested .is-well-formed .ensures)) ∙ c .before .if1 .left)
 
 pub leave-spec : {M : Type 1} → statement M
-leave-spec =
-    tie.close
-    (tie.spec
-    (λ c κs. tt)
-    (λ c κs. tt)
-    returns
-    (λ c κs. tt)
-    returns-2)
+leave-spec = tie.close (tie.spec (λ c κs. tt) (λ c κs. tt) returns (λ c κs. tt) returns-2)

@@ -16,12 +16,4 @@ returns-2 c =
     simp (← tests .before .is-well-formed .ensures, ← tests .is-deliverable .ensures, c .before .if1 .left, c .act .ensures)
 
 pub receive-spec : {M : Type 1} → statement M
-receive-spec =
-    tie.close
-    (tie.spec
-    (λ c κs. tt)
-    (λ c κs. tt)
-    (λ c κs. tt)
-    returns
-    (λ c κs. tt)
-    returns-2)
+receive-spec = tie.close (tie.spec (λ c κs. tt) (λ c κs. tt) (λ c κs. tt) returns (λ c κs. tt) returns-2)

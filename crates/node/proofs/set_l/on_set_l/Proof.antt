@@ -9,11 +9,4 @@ returns-2 : tie.Need-returns-2
 returns-2 c = simp (← c .before .before .is-newer .ensures, c .before .if1 .left, c .silent2 .ensures)
 
 pub on-set-l-spec : {M : Type 1} → statement M
-on-set-l-spec =
-    tie.close
-    (tie.spec
-    (λ c κs. tt)
-    (λ c κs. tt)
-    returns
-    (λ c κs. tt)
-    returns-2)
+on-set-l-spec = tie.close (tie.spec (λ c κs. tt) (λ c κs. tt) returns (λ c κs. tt) returns-2)

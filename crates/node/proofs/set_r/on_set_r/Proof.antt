@@ -38,12 +38,4 @@ returns-3 c =
 pub on-set-r-spec : {M : Type 1} → statement M
 on-set-r-spec =
     tie.close
-    (tie.spec
-    (λ c κs. tt)
-    (λ c κs. tt)
-    returns
-    (λ c κs. tt)
-    (λ c κs. tt)
-    (λ c κs. tt)
-    returns-2
-    returns-3)
+    (tie.spec (λ c κs. tt) (λ c κs. tt) returns (λ c κs. tt) (λ c κs. tt) (λ c κs. tt) returns-2 returns-3)

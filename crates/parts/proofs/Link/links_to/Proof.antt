@@ -3,8 +3,5 @@ use borrow.Author.Needs.{needs}
 use Rattle.parts.proofs.Link.links_to.Statement.{statement}
 use Rattle.parts.proofs.Link.links_to.Tie as tie
 
-returns-2 : tie.Need-returns-2
-returns-2 c = rw (c .before .self .given .1)
-
 pub links-to-spec : {M : Type 1} → statement M
-links-to-spec = tie.close (tie.spec (λ c. search needs) (λ c. search needs) (λ c. search needs) returns-2)
+links-to-spec = tie.close (tie.spec (λ c. search needs) (λ c. search needs) (λ c. search needs) (λ c. cc))

@@ -5,7 +5,7 @@ use Rattle.parts.proofs.Message.fits.Tie as tie
 
 returns : tie.Need-returns
 unfolding messageFits
-returns c = simp (c .kind-fits .ensures)
+returns c = cc
 
 pub fits-spec : {M : Type 1} → statement M
 fits-spec = tie.close (tie.spec (λ c κs. tt) returns)

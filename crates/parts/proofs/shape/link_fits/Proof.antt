@@ -3,8 +3,5 @@ use borrow.Author.Needs.{needs}
 use Rattle.parts.proofs.shape.link_fits.Statement.{statement}
 use Rattle.parts.proofs.shape.link_fits.Tie as tie
 
-returns-2 : tie.Need-returns-2
-returns-2 c = rw (c .before .link .given .1)
-
 pub link-fits-spec : {M : Type 1} → statement M
-link-fits-spec = tie.close (tie.spec (λ c. search needs) (λ c. search needs) (λ c. search needs) returns-2)
+link-fits-spec = tie.close (tie.spec (λ c. search needs) (λ c. search needs) (λ c. search needs) (λ c. cc))

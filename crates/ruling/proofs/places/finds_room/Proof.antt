@@ -15,9 +15,4 @@ returns c =
     ap (λ (g : Bool). ltb (n .waiting) queueLimit || not g) (c .would-grant .ensures ∙ ap grantable (met .arrival .ensures))
 
 pub finds-room-spec : {M : Type 1} → statement M
-finds-room-spec =
-    tie.close
-    (tie.spec
-    (λ c κs. search needs)
-    (λ c κs. search needs)
-    returns)
+finds-room-spec = tie.close (tie.spec (λ c κs. search needs) (λ c κs. search needs) returns)
