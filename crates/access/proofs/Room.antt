@@ -1,4 +1,5 @@
--- What `fitting` leaves of a change: a change that finds room, which carried out is the change committed. Assumes nothing.
+-- What `fitting` leaves of a change: a change that finds room, which carried out is the change
+-- committed. Assumes nothing.
 --     Room             the room that a change asks for, as numbers
 --     fitted           of a change that is what `fitting` leaves of another: both of these
 use mathlib.Core.Path.{_≡_, refl}

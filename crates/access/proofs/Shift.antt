@@ -1,5 +1,6 @@
--- A gap is closed by moving each later message one place down. With the first so many moved, the array is the beginning without the
--- gap, and then what it was from there on; each move keeps that. Assumes nothing.
+-- A gap is closed by moving each later message one place down. With the first so many moved, the
+-- array is the beginning without the gap, and then what it was from there on; each move keeps that.
+-- Assumes nothing.
 use mathlib.Core.Path.{_≡_, sym, ap, _∙_}
 use mathlib.Core.List.{List, [], _∷_, _++_, append-assoc, append-nil}
 use Prim.Native.Nat.{ℕ, suc, _+_, _-_, _≤_, _<_}

@@ -1,5 +1,6 @@
--- What the functions write into the arrays, as the lists have it: a node in its place, one node more, a message taken out, messages at
--- the end. Each is said of arrays that hold given lists, and comes to arrays that hold the lists so changed. Assumes nothing.
+-- What the functions write into the arrays, as the lists have it: a node in its place, one node
+-- more, a message taken out, messages at the end. Each is said of arrays that hold given lists, and
+-- comes to arrays that hold the lists so changed. Assumes nothing.
 use mathlib.Core.Path.{_≡_, sym, ap, _∙_}
 use mathlib.Core.List.{List, [], _∷_, _++_, append-assoc, append-nil}
 use Prim.Native.Nat.{ℕ, suc, _+_, _-_, _≤_, _<_}
@@ -79,7 +80,8 @@ all-posted-held nodes ms posts k = λ i. record {
   waiting = sym (length-append ms posts) i;
 }
 
--- ---- a delivery as the code puts it together: the messages without the one at a place, the posts behind them, the node in its place
+-- ---- a delivery as the code puts it together: the messages without the one at a place, the posts
+-- behind them, the node in its place
 pub delivered-arrays : (n : Network) (place u : ℕ) (node : Node) (posts : List Message) {left queue : List Message} {more : ℕ} → 0 < n .waiting
     → left ≡ without place (take (n .waiting - 1 + 1) (n .messages)) ++ vacantMessage ∷ drop (n .waiting - 1 + 1) (n .messages)
     → queue ≡ queued left (n .waiting - 1) posts

@@ -1,5 +1,6 @@
--- No rules stand here: it is what a change makes of a network's arrays, a node in its place, one node more, messages at the end, a gap closed.
--- What this makes of the lists that the arrays hold is proved in `proofs/`. Definitions only.
+-- No rules stand here: it is what a change makes of a network's arrays, a node in its place, one
+-- node more, messages at the end, a gap closed. What this makes of the lists that the arrays hold
+-- is proved in `proofs/`. Definitions only.
 use Prim.Native.Nat.{ℕ, _+_, _-_}
 use mathlib.Core.Bool.{Bool, true, _&&_, cond}
 use mathlib.Core.List.{List, [], _∷_, _++_}

@@ -1,4 +1,5 @@
--- No rules stand here: it is what the rules of an order or a delivery look at, as it is read out of a network's arrays. Definitions only.
+-- No rules stand here: it is what the rules of an order or a delivery look at, as it is read out of
+-- a network's arrays. Definitions only.
 use Prim.Native.Nat.{ℕ, _%_}
 use lib.ListN.{getD}
 use Rattle.node.specs.declared.Node.{Node}

@@ -1,5 +1,5 @@
-// The arrays of a network by value: a sight, and a change carried out. Whole arrays of messages are handed on and not whole
-// networks, since each hand-over by value is a copy.
+// The arrays of a network by value: a sight, and a change carried out. Whole arrays of messages are
+// handed on and not whole networks, since each hand-over by value is a copy.
 ghost use mathlib.Core.List.{_∷_, _++_};
 ghost use mathlib.Core.Path.{_≡_};
 ghost use mathlib.Core.Bool.{_&&_, cond};
@@ -71,7 +71,8 @@ fn post(messages: [Message; 64], waiting: usize, posts: Posts) -> [Message; 64]
     queue
 }
 
-// Node `number` has made a step: it stands in its place as the step leaves it, and the step's posts are added at the end.
+// Node `number` has made a step: it stands in its place as the step leaves it, and the step's posts
+// are added at the end.
 fn stepped(network: Network, number: u8, node: Node, posts: Posts) -> Network
     requires { ⌜ (number < 32) × (network .waiting + length (listed posts) ≤ 64) ⌝ }
     ensures { λ r. ⌜ r ≡ allPosted (placed network number node) (listed posts) ⌝ }

@@ -1,6 +1,7 @@
-// How the arrays of a network are read and written, by value. No rule stands here: what a call's rules look at is read out (`Sight`, `Arrival`), and
-// what they decide is carried out (`Change`). Each public function takes any network and any numbers. The crates `stores` and `readings` do the same
-// where a network lies, by the same definitions.
+// How the arrays of a network are read and written, by value. No rule stands here: what a call's
+// rules look at is read out (`Sight`, `Arrival`), and what they decide is carried out (`Change`).
+// Each public function takes any network and any numbers. The crates `stores` and `readings` do the
+// same where a network lies, by the same definitions.
 use node::Node;
 use parts::Message;
 use parts::Posts;
@@ -12,8 +13,9 @@ pub use by_value::committed;
 pub use by_value::fitting;
 pub use by_value::sight as seen;
 
-// What a call leaves to be done in the arrays: nothing where it is refused; a node more; a node's step, with the messages that it posts; or the
-// same with the message at a place taken from the queue.
+// What a call leaves to be done in the arrays: nothing where it is refused; a node more; a node's
+// step, with the messages that it posts; or the same with the message at a place taken from the
+// queue.
 pub enum Change {
     Nothing,
     Add(Node),
@@ -46,7 +48,8 @@ pub struct Sight {
     pub right: Node,
 }
 
-// What a delivery looks at: how many messages wait, the one at its place, and the node that it is for.
+// What a delivery looks at: how many messages wait, the one at its place, and the node that it is
+// for.
 pub struct Arrival {
     pub waiting: u8,
     pub message: Message,

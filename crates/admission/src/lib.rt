@@ -1,4 +1,5 @@
-// The test at the doors that are handed a network by reference: what is asked becomes a task, or the task is to tell 6.
+// The test at the doors that are handed a network by reference: what is asked becomes a task, or
+// the task is to tell 6.
 ghost use mathlib.Core.Path.{_≡_};
 ghost use Rattle.task.specs.declared.Task.the-variants as task;
 ghost use Rattle.admission.specs.Admission.{admitted};

@@ -1,5 +1,5 @@
--- Every row of the table holds. All but one compute; the row for every i follows by comparing i with i + 1 and i + 2.
--- Assumes nothing.
+-- Every row of the table holds. All but one compute; the row for every i follows by comparing i
+-- with i + 1 and i + 2. Assumes nothing.
 use mathlib.Core.Path.{_≡_, refl}
 use mathlib.Core.Bool.{true, false}
 use native.Mathlib.Omega.{arith}

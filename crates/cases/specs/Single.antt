@@ -1,5 +1,6 @@
--- Rows of our own beside the marked ones: what a single node's step does and refuses where no script can show it, since a network is
--- well formed and hands in its own nodes and keys. `proofs/Single.antt` proves the whole table. Definitions only.
+-- Rows of our own beside the marked ones: what a single node's step does and refuses where no
+-- script can show it, since a network is well formed and hands in its own nodes and keys.
+-- `proofs/Single.antt` proves the whole table. Definitions only.
 use mathlib.Core.List.{List, [], _∷_}
 use Prim.Native.Nat.{ℕ}
 use Rattle.refusal.specs.Code.{plain}
@@ -26,7 +27,8 @@ numbered status rseq = record { status = status; key = 1_000; left = To 1; right
 abbrev pub peer : ℕ → ℕ → Peer
 peer number key = record { number = number; key = key }
 
--- a node of another network, which has 33 nodes or more; and one that is in and lacks a link or its right number
+-- a node of another network, which has 33 nodes or more; and one that is in and lacks a link or its
+-- right number
 abbrev pub linkedFar : Node
 linkedFar = record { status = In; key = 1_000; left = To 1; right = To 32; lseq = 5; rseq = Is 7 }
 
@@ -41,7 +43,8 @@ single =
     -- R5.1: both links name the node, both numbers are the first; refusal 23 unless it is out
     (createOf 0 (linked Out) is quiet (record { status = In; key = 1_000; left = To 0; right = To 0; lseq = 0; rseq = Is 0 }) Created)
     ∷ (createOf 0 (linked Ins) is refused (linked Ins) (plain 23))
-    -- R5.2, R1.5: a second join sends the left number, and keeps the right one; refusals 23 and 24, and 23 where both hold
+    -- R5.2, R1.5: a second join sends the left number, and keeps the right one; refusals 23 and 24,
+    -- and 23 where both hold
     ∷ (joinOf 0 (linked Out) (peer 3 500) (peer 4 2_000)
     is posting (record { status = Ins; key = 1_000; left = To 3; right = To 4; lseq = 5; rseq = Is 7 }) (setR 0 3 0 4 5) Waiting)
     ∷ (joinOf 0 (linked In) (peer 3 500) (peer 4 2_000) is refused (linked In) (plain 23))
@@ -66,7 +69,8 @@ single =
     ∷ (receiveOf 0 (linked Out) (setRAck 1 0 9) is quiet (linked Out) Dropped)
     ∷ (receiveOf 0 (linked Out) (setRNak 1 0) is quiet (linked Out) Dropped)
     ∷ (receiveOf 0 (linked Out) (setL 1 0 3 9) is quiet (linked Out) Dropped)
-    -- R6.12: the own number, the key, the links, the right number; a message for another, or that names node 32; a neighbour
+    -- R6.12: the own number, the key, the links, the right number; a message for another, or that
+    -- names node 32; a neighbour
     ∷ (createOf 32 (linked Out) is refused (linked Out) (plain 6))
     ∷ (createOf 0 (declaredOf 100_000_000) is refused (declaredOf 100_000_000) (plain 6))
     ∷ (leaveOf 0 linkedFar is refused linkedFar (plain 6))

@@ -1,5 +1,5 @@
--- R11.4: the cases that paper 01 marks †, in its order, one row each: what the definition gives, and what it must be.
--- `proofs/Claim.antt` proves the whole table. Definitions only.
+-- R11.4: the cases that paper 01 marks †, in its order, one row each: what the definition gives,
+-- and what it must be. `proofs/Claim.antt` proves the whole table. Definitions only.
 use mathlib.Core.Path.{_≡_}
 use mathlib.Core.Bool.{true, false}
 use mathlib.Core.List.{List, [], _∷_}
@@ -58,7 +58,8 @@ table =
     -- R5.12: at left number 2 a notice with 2 is old, and one with 3 is taken
     ∷ (receiveOf 0 (node0 1 2 2 0) (setL 3 0 3 2) is quiet (node0 1 2 2 0) LeftOld)
     ∷ (receiveOf 0 (node0 1 2 2 0) (setL 3 0 3 3) is quiet (node0 3 2 3 0) LeftSet)
-    -- R5.12: of two notices the one with the greater number stays, though it comes first (004, Fig. 3)
+    -- R5.12: of two notices the one with the greater number stays, though it comes first (004, Fig.
+    -- 3)
     ∷ every (λ i. receiveOf 0 (receiveOf 0 (node0 1 2 i 0) (setL 4 0 4 (nextSeq (nextSeq i))) .node) (setL 3 0 3 (nextSeq i)) is quiet (node0 4 2 (nextSeq (nextSeq i)) 0) LeftOld)
     -- R5.5, R5.6: at right number 65,534 a join is granted, and its notice has 65,535
     ∷ (receiveOf 0 (node0 1 2 0 65_534) (setR 3 0 3 2 7) is granting (node0 1 3 0 7) (setL 0 2 3 65_535) (setRAck 0 3 65_535))

@@ -1,5 +1,6 @@
-// Runs scripts made by chance through the ring program and through a second model of it, and holds the two printouts against each other, byte for byte.
-// It writes how often each order had each answer, and last whether any script differed.
+// Runs scripts made by chance through the ring program and through a second model of it, and holds
+// the two printouts against each other, byte for byte. It writes how often each order had each
+// answer, and last whether any script differed.
 mod playing;
 mod random;
 mod steering;
@@ -17,7 +18,8 @@ use std::num::wrapping_sub_usize as minus;
 
 const ALL_SCRIPTS: usize = 1000;
 
-// The first script that differs is the one entered last, since they come from the highest number down.
+// The first script that differs is the one entered last, since they come from the highest number
+// down.
 fn enter_difference(sheet: &mut Sheet, script: usize, place: usize) {
     if place > 0 {
         add(sheet, RUN, DIFFERENT, 1);

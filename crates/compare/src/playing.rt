@@ -11,8 +11,9 @@ use model::text::*;
 use std::num::wrapping_add_usize as plus;
 use std::num::wrapping_sub_usize as minus;
 
-// The ledger: so many rows on from here as an order's number, how often each answer came, where HOPPED stands for an owner found by a hop or more;
-// the row of how often so many messages waited; and the row of the run, with its places.
+// The ledger: so many rows on from here as an order's number, how often each answer came, where
+// HOPPED stands for an owner found by a hop or more; the row of how often so many messages waited;
+// and the row of the run, with its places.
 pub(crate) const TALLY: usize = 16;
 
 const HOPPED: usize = 47;
@@ -38,7 +39,8 @@ pub(crate) const FIRST_BYTE: usize = 6;
 // More than a script has, since each has three bytes or more.
 const MOST_RECORDS: usize = 30000;
 
-// How long a script is at most: the first few are at the limits, and the others short, or longer, or a few of them long.
+// How long a script is at most: the first few are at the limits, and the others short, or longer,
+// or a few of them long.
 fn most_bytes(script: usize, mood: usize) -> usize {
     let some = below(mood, 47, 30000);
     match script {
@@ -84,7 +86,8 @@ fn is_over(network: &Sheet, upto: usize, most: usize) -> bool {
     if upto > most { true } else { is_stuck(network) }
 }
 
-// Where a script ends that has no room for another record, or no use for one: in half of the scripts within that record.
+// Where a script ends that has no room for another record, or no use for one: in half of the
+// scripts within that record.
 fn cut(length: usize, most: usize, mood: usize) -> usize {
     let is_close = minus(most, length) < 7;
     if is_close && mood % 2 == 0 {

@@ -1,4 +1,5 @@
-// Numbers by chance. Throws follow each other by xorshift on 64 bits; a throw yields as many numbers as one record takes, each for a purpose of its own.
+// Numbers by chance. Throws follow each other by xorshift on 64 bits; a throw yields as many
+// numbers as one record takes, each for a purpose of its own.
 use std::num::wrapping_add_usize as plus;
 
 pub(crate) fn next(throw: usize) -> usize {
@@ -8,7 +9,8 @@ pub(crate) fn next(throw: usize) -> usize {
     x ^ (x << 17)
 }
 
-// Each bit of the result depends on all bits of the number: sums with shifts of itself, which wrap, in turn with shifts to the right.
+// Each bit of the result depends on all bits of the number: sums with shifts of itself, which wrap,
+// in turn with shifts to the right.
 pub(crate) fn mixed(number: usize) -> usize {
     let mut x = plus(number, number << 21);
     x = x ^ (x >> 24);

@@ -1,6 +1,7 @@
-// Scripts by chance. Records are drawn until one comes whose answer, as the network of the model is by then, is welcome; so that orders of every outcome
-// come in good number. A script has a mood, its own throw, which gives its temper, a row of weights for the orders, and how many nodes are wanted.
-// The number after a throw tells one purpose from another.
+// Scripts by chance. Records are drawn until one comes whose answer, as the network of the model is
+// by then, is welcome; so that orders of every outcome come in good number. A script has a mood,
+// its own throw, which gives its temper, a row of weights for the orders, and how many nodes are
+// wanted. The number after a throw tells one purpose from another.
 use crate::random::*;
 use model::network::*;
 use model::packed::*;
@@ -13,8 +14,8 @@ use model::sheet::*;
 use std::num::wrapping_add_usize as plus;
 use std::num::wrapping_sub_usize as minus;
 
-// For each order from BC to RD a share of a hundred. The tempers: few nodes and many orders; many nodes; notices left lying until the network is full;
-// drained often; anything; rings of one.
+// For each order from BC to RD a share of a hundred. The tempers: few nodes and many orders; many
+// nodes; notices left lying until the network is full; drained often; anything; rings of one.
 const ORDERS: [usize; 54] = [
     1,
     1,
@@ -77,7 +78,8 @@ const HOARDING: usize = 2;
 
 const DRAINING: usize = 3;
 
-// For each answer from 22 on the share of a hundred in which it is welcome; HOPELESS stands for a request that would not be granted now.
+// For each answer from 22 on the share of a hundred in which it is welcome; HOPELESS stands for a
+// request that would not be granted now.
 const WELCOME: [usize; 25] = [
     5,
     4,
@@ -177,7 +179,8 @@ fn key_to_declare(network: &Sheet, mood: usize, throw: usize) -> usize {
     }
 }
 
-// A join before the node that a walk from some node finds to own the key, and in a few cases with any node on the right.
+// A join before the node that a walk from some node finds to own the key, and in a few cases with
+// any node on the right.
 fn some_join(network: &Sheet, throw: usize) -> usize {
     let node = any(network, throw, 11);
     let start = any(network, throw, 12);
@@ -198,7 +201,8 @@ fn some_join(network: &Sheet, throw: usize) -> usize {
     )
 }
 
-// The first message, the last, or any, and a few places where no message need be; where notices are to lie, anything else behind the first.
+// The first message, the last, or any, and a few places where no message need be; where notices are
+// to lie, anything else behind the first.
 fn some_place(network: &Sheet, temper: usize, throw: usize) -> usize {
     let messages = count(network, UNDERWAY);
     let some = below(throw, 16, messages);
@@ -279,7 +283,8 @@ fn leave_foreseen(network: &Sheet, node: usize) -> usize {
     )
 }
 
-// What a record of declared nodes will be answered, and for a request what will come of it, as far as it matters here.
+// What a record of declared nodes will be answered, and for a request what will come of it, as far
+// as it matters here.
 fn foreseen(network: &Sheet, drawn: usize) -> usize {
     let first = drawn / 16 % 256;
     match drawn % 16 {
@@ -302,7 +307,8 @@ fn welcome_share(answer: usize) -> usize {
     if place < 25 { WELCOME[place] } else { 0 }
 }
 
-// Where notices are to lie, none is delivered but for a few, nor is the first message, and nothing is drained before the network is full.
+// Where notices are to lie, none is delivered but for a few, nor is the first message, and nothing
+// is drained before the network is full.
 fn hoarding_share(network: &Sheet, answer: usize, drawn: usize) -> usize {
     let is_full = count(network, UNDERWAY) == FULL;
     match answer {
@@ -327,7 +333,8 @@ fn is_welcome(network: &Sheet, mood: usize, throw: usize, drawn: usize) -> bool 
     below(throw, 21, 100) < share
 }
 
-// A serial with a fault: a digit above 9 where it is packed; where it is binary too large, by one or by more, up to all that four bytes hold.
+// A serial with a fault: a digit above 9 where it is packed; where it is binary too large, by one
+// or by more, up to all that four bytes hold.
 fn faulty_serial(network: &Sheet, throw: usize, order: usize) -> usize {
     let more = below(throw, 22, 4194967296);
     match order {
@@ -341,7 +348,8 @@ fn faulty_serial(network: &Sheet, throw: usize, order: usize) -> usize {
     }
 }
 
-// A record with a fault in its fields, where a question or a join may have two; or, in a few cases, a mark that is none.
+// A record with a fault in its fields, where a question or a join may have two; or, in a few cases,
+// a mark that is none.
 fn faulty(network: &Sheet, throw: usize) -> usize {
     let nodes = count(network, NODES);
     let wrong = either(

@@ -1,5 +1,6 @@
--- Refusals that no record meets: 6 on a well-formed network, and 31 on a network that a list of calls makes. The fields give 3, 4 and 5, and
--- what a record does then is a call, a question or a drain. Assumes nothing.
+-- Refusals that no record meets: 6 on a well-formed network, and 31 on a network that a list of
+-- calls makes. The fields give 3, 4 and 5, and what a record does then is a call, a question or a
+-- drain. Assumes nothing.
 use mathlib.Core.Path.{_≡_, refl, ap}
 use mathlib.Core.Bool.{false, not}
 use mathlib.Core.List.{List, _∷_}

@@ -1,5 +1,5 @@
--- A record leaves the network well formed, on the arrays as on the lists, and posts no more than a few messages; a refused one leaves it as
--- it was. Assumes nothing.
+-- A record leaves the network well formed, on the arrays as on the lists, and posts no more than a
+-- few messages; a refused one leaves it as it was. Assumes nothing.
 use mathlib.Core.Path.{_≡_, refl}
 use mathlib.Core.Logic.{⊎-elim}
 use mathlib.Core.Bool.{not}

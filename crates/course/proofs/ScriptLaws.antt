@@ -1,5 +1,6 @@
--- A run over a script, by the definition: each record moves the cursor past three bytes at least or to the end, so that the ordinal and the
--- messages posted stay small; and at the end nothing changes any more. Assumes nothing.
+-- A run over a script, by the definition: each record moves the cursor past three bytes at least or
+-- to the end, so that the ordinal and the messages posted stay small; and at the end nothing
+-- changes any more. Assumes nothing.
 use mathlib.Core.Path.{_≡_, refl, ap, _∙_}
 use mathlib.Core.List.{List}
 use Prim.Native.Nat.{ℕ, zero, suc, _+_, _*_, _≤_, _<_}

@@ -1,5 +1,6 @@
--- Every script is a list of calls, record by record: a record that is refused for one of its fields, and a question, leave the network as it
--- is; every other record is the call or the deliveries that it asks for. Assumes nothing.
+-- Every script is a list of calls, record by record: a record that is refused for one of its
+-- fields, and a question, leave the network as it is; every other record is the call or the
+-- deliveries that it asks for. Assumes nothing.
 use mathlib.Core.Path.{_≡_, refl, sym, ap, _∙_}
 use mathlib.Core.Logic.{⊎-elim}
 use mathlib.Core.Bool.{false}

@@ -1,6 +1,6 @@
--- R10.11, what a script does to the network, as a list of calls: after each of its records the network is the one that these
--- calls make, so all that is claimed of any list of calls holds of it, and the messages posted are theirs; and what its
--- printout says. Definitions only.
+-- R10.11, what a script does to the network, as a list of calls: after each of its records the
+-- network is the one that these calls make, so all that is claimed of any list of calls holds of
+-- it, and the messages posted are theirs; and what its printout says. Definitions only.
 use Prim.Native.Nat.{ℕ, zero, suc}
 use mathlib.Core.Path.{_≡_}
 use mathlib.Core.List.{List, [], _∷_, _++_, map, List·Memᴰ}
@@ -23,7 +23,8 @@ use Rattle.printout.specs.Lines.{heading, lineOf}
 use Rattle.course.specs.Execution.{executeOf}
 use Rattle.course.specs.Run.{after}
 
--- the calls of a record: none where its serial is refused, and none for a question; a drain counts as its deliveries (R10.1)
+-- the calls of a record: none where its serial is refused, and none for a question; a drain counts
+-- as its deliveries (R10.1)
 abbrev pub callsOf : State → Record → List Call
 callsOf s (CallRecord call) = call ∷ []
 callsOf s (DeclareRecord (Value key)) = Order (Declare key) ∷ []

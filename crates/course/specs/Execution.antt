@@ -1,5 +1,6 @@
--- What a record of a script does to a network, over lists: its refusals in their order (R9.6), and else what its call, its
--- question or its drain comes to, by the rules of the crate `protocol`. Definitions only.
+-- What a record of a script does to a network, over lists: its refusals in their order (R9.6), and
+-- else what its call, its question or its drain comes to, by the rules of the crate `protocol`.
+-- Definitions only.
 use Prim.Native.Nat.{ℕ}
 use mathlib.Core.Bool.{true, not}
 use mathlib.Core.List.{List, [], _∷_}

@@ -1,4 +1,5 @@
--- The printout of a script: its records one after the other from the empty network, a line for each. Definitions only.
+-- The printout of a script: its records one after the other from the empty network, a line for
+-- each. Definitions only.
 use Prim.Native.Nat.{ℕ, zero, suc, _+_}
 use mathlib.Core.Bool.{cond}
 use mathlib.Core.List.{List, _++_}
@@ -11,7 +12,8 @@ use Rattle.script.specs.Script.{Read, end, stop, next, readAt}
 use Rattle.printout.specs.Lines.{heading, lineOf, lastLine}
 use Rattle.course.specs.Execution.{executeOf}
 
--- how far a run has come: the network, the cursor, the ordinal of the last record, all messages posted, and the printout so far
+-- how far a run has come: the network, the cursor, the ordinal of the last record, all messages
+-- posted, and the printout so far
 pub record Progress : Type 0 where
   pub state : State
   pub at : ℕ
@@ -22,8 +24,8 @@ pub record Progress : Type 0 where
 abbrev pub start : Progress
 start = record { state = empty; at = 0; ordinal = 0; posted = 0; text = heading }
 
--- one more record, by what is read at the cursor; R9.5: 1 and 2 end the reading, since nothing is read past the end, and
--- after any other refusal it goes on
+-- one more record, by what is read at the cursor; R9.5: 1 and 2 end the reading, since nothing is
+-- read past the end, and after any other refusal it goes on
 abbrev pub advanced : List ℕ → Progress → Read → Progress
 advanced script p end = p
 advanced script p (stop r) = record { state = p .state; at = length script; ordinal = p .ordinal + 1; posted = p .posted; text = p .text ++ lineOf (p .ordinal + 1) (no r) }

@@ -1,4 +1,5 @@
--- No rules stand here: it is what the code makes of what the rules say, and of a node's step. Definitions only.
+-- No rules stand here: it is what the code makes of what the rules say, and of a node's step.
+-- Definitions only.
 use Prim.Native.Nat.{ℕ, _+_}
 use mathlib.Core.Bool.{not}
 use mathlib.Core.List.{List, [], _∷_}

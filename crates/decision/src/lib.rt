@@ -1,6 +1,6 @@
-// What any call may come to, whatever its rules: a refusal, which changes nothing, or a new node or a node's step to be written
-// down, with what is told of it. Where an order looks, and whether what a step posts finds room, are here too. Each public
-// function takes any values.
+// What any call may come to, whatever its rules: a refusal, which changes nothing, or a new node or
+// a node's step to be written down, with what is told of it. Where an order looks, and whether what
+// a step posts finds room, are here too. Each public function takes any values.
 ghost use mathlib.Core.Path.{_≡_};
 ghost use Prim.Native.Nat.{_+_, _-_};
 ghost use lib.ListN.{length};
@@ -31,7 +31,8 @@ use refusal::Check;
 use refusal::Refusal;
 use report::Report;
 
-// What a call comes to: the change to be carried out, which is none where it is refused, and what is told.
+// What a call comes to: the change to be carried out, which is none where it is refused, and what
+// is told.
 pub struct Decision {
     pub change: Change,
     pub report: Report,

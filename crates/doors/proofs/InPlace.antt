@@ -1,5 +1,6 @@
--- The two functions of `in_place` as one walk: a network is put in the local _3, is lent to a public function of `engine` for the call, and lies there
--- again as some network, which is handed back with the report. Nothing is claimed of either, beyond that they are a network and a report.
+-- The two functions of `in_place` as one walk: a network is put in the local _3, is lent to a
+-- public function of `engine` for the call, and lies there again as some network, which is handed
+-- back with the report. Nothing is claimed of either, beyond that they are a network and a report.
 --     door σ τ f       the MIR of such a function: its reference is said to point to σ, its second parameter has the type τ, and f is called.
 --                      The generated `function` is this by computation
 --     meets            it is safe and ends, where f asks nothing
@@ -132,7 +133,8 @@ module _ (D : Data) (tells : Tells (D .row) (Is (D .row)) (λ x. word D x ∷ []
               use1 W (given (NetworkIs m) (‵ (Cell 𝓤 H A W l₃ m (networkVal m)))) (lies-out 𝓤 H A W l₃ m) $ learn ! (λ m-is.
               let left : Called = record { network = m; report = r } in
               let left-is : Is called.the-row left (word a-called left ∷ []) = struct.owes called.the-type called-laws.the-laws left (m-is, (r-is, tt)) in
-              -- [_3; _6; …; _5; …; _4; …; …; _2; …; _1; …; _0; …]. _6 = _3, _0 = Called { _6, _4 }, return
+              -- [_3; _6; …; _5; …; _4; …; …; _2; …; _1; …; _0; …]. _6 = _3, _0 = Called { _6, _4 },
+              -- return
               sets ! 1 refl (of-opd ! (var ! 0 refl)) (network-typed 𝓤 H A W m m-is) $
               sets ! 12 refl (agg ! (and-then ! (var ! 1 refl) (and-then ! (var ! 5 refl) (no-more !)))) (typed called.the-type called-laws.the-laws left _ left-is 𝓤 H A W) $
               returns ! (look ! 12 refl) $

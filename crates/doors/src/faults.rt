@@ -1,4 +1,5 @@
-// A network that is well formed, the same with one thing wrong at a time, and one that is well formed and no ring.
+// A network that is well formed, the same with one thing wrong at a time, and one that is well
+// formed and no ring.
 use network::Network;
 use node::Node;
 use parts::Kind;
@@ -122,7 +123,8 @@ pub(crate) fn left_undeclared(network: Network) -> Network {
     )
 }
 
-// R2.6: a node that is in and has no links, and to which a notice waits; and one with no right number.
+// R2.6: a node that is in and has no links, and to which a notice waits; and one with no right
+// number.
 pub(crate) fn links_missing(network: Network) -> Network {
     with_node(
         network,
@@ -135,7 +137,8 @@ pub(crate) fn number_missing(network: Network) -> Network {
     with_first(network, 1_000, Link::To(1), Seq::Unset)
 }
 
-// R2.7: two answers to one node, an answer to a node that waits for none, and a request from one that asks nothing.
+// R2.7: two answers to one node, an answer to a node that waits for none, and a request from one
+// that asks nothing.
 pub(crate) fn two_answers(network: Network) -> Network {
     with_message(network, 0, 1, Kind::SetRNak)
 }
@@ -157,7 +160,8 @@ pub(crate) fn request_unasked(network: Network) -> Network {
     )
 }
 
-// R2.1: the first of two nodes is in, and its right link leads to the second, which is out and has no links. Its right number is the last.
+// R2.1: the first of two nodes is in, and its right link leads to the second, which is out and has
+// no links. Its right number is the last.
 pub(crate) fn no_ring() -> Network {
     with_first(two(), 1_000, Link::To(1), Seq::Is(65_535))
 }

@@ -1,4 +1,5 @@
-// The two doors that take a network by `&mut`: each is handed a copy, and hands back what it left of it.
+// The two doors that take a network by `&mut`: each is handed a copy, and hands back what it left
+// of it.
 use engine::Called;
 use network::Network;
 use protocol::Call;

@@ -1,6 +1,8 @@
-// Hands networks that are not well formed to every public function of the crate `engine`, its doors, and counts those that answer 6 and hand
-// the very network back (R6.2): a well-formed network with one rule of section 2 broken at a time, and networks with fields made by chance.
-// Then what no script can show of well-formed networks: one that is no ring, and the word of the inserted nodes.
+// Hands networks that are not well formed to every public function of the crate `engine`, its
+// doors, and counts those that answer 6 and hand the very network back (R6.2): a well-formed
+// network with one rule of section 2 broken at a time, and networks with fields made by chance.
+// Then what no script can show of well-formed networks: one that is no ring, and the word of the
+// inserted nodes.
 ghost use Prim.Native.Nat.{_≤_};
 
 mod faults;
@@ -154,7 +156,8 @@ fn number_of(answer: Answer) -> u32 {
     }
 }
 
-// What no script comes to: a well-formed network that is no ring, on which an owner is not found, and a right number that is the last.
+// What no script comes to: a well-formed network that is no ring, on which an owner is not found,
+// and a right number that is the last.
 fn no_ring() {
     let network = faults::no_ring();
     let called = engine::apply(network, Call::Order(Order::Leave(0)));

@@ -30,7 +30,8 @@ fn seq_number(seq: Seq) -> u32 {
     }
 }
 
-// A kind as three numbers: which it is with its first field, its second one, and its sequence number.
+// A kind as three numbers: which it is with its first field, its second one, and its sequence
+// number.
 fn kind_number(kind: Kind) -> u32 {
     match kind {
         Kind::SetR {

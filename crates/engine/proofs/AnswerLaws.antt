@@ -1,5 +1,6 @@
--- What a call or a drain is said to come to fixes all that the code hands back: two results that say the same are the same. So a contract
--- that gives this leaves neither the network nor the report open. Assumes nothing.
+-- What a call or a drain is said to come to fixes all that the code hands back: two results that
+-- say the same are the same. So a contract that gives this leaves neither the network nor the
+-- report open. Assumes nothing.
 use mathlib.Core.Path.{_≡_, ap}
 use Rattle.protocol.proofs.AnswerLaws.{answered-injective}
 use Rattle.engine.specs.declared.Called.{Called}

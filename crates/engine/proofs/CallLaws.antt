@@ -1,5 +1,6 @@
--- What the code decides on a well-formed network, carried out, is what the rules make of its lists: what it reads out of the arrays stands in the
--- lists, its tests come to the rules, and what it writes are the lists so changed. Assumes nothing.
+-- What the code decides on a well-formed network, carried out, is what the rules make of its lists:
+-- what it reads out of the arrays stands in the lists, its tests come to the rules, and what it
+-- writes are the lists so changed. Assumes nothing.
 use mathlib.Core.Path.{_≡_, refl, sym, ap, _∙_}
 use mathlib.Core.Logic.{⊎-elim}
 use mathlib.Core.Bool.{Bool, true, false, not, _&&_, _||_, cond, and-false}
@@ -60,7 +61,8 @@ use Rattle.engine.proofs.RunLaws.{refused-here}
 use Rattle.engine.proofs.StepLaws.{create-posts, join-says, leave-says, deliver-says}
 
 -- ---- tests put together
--- where the number named is declared the rest says what the rules say, and where it is not they say 5
+-- where the number named is declared the rest says what the rules say, and where it is not they say
+-- 5
 unless-says : (known : Bool) (rest says : Option Reason) → (known ≡ true → rest ≡ says) → (known ≡ false → some (plain 5) ≡ says) → unless known rest ≡ says
 unless-says true rest says there absent = there refl
 unless-says false rest says there absent = absent refl
@@ -306,7 +308,8 @@ module _ (n : Network) (l : Lengths n) (h : wellFormed n ≡ true) where
     abbrev received : Effect
     received = receiveStep arrival
 
-    -- what the node that the message is for does with it: the tests of its own that a step begins with are passed
+    -- what the node that the message is for does with it: the tests of its own that a step begins
+    -- with are passed
     received-read : place < n .waiting → received ≡ receiving (live n) (messageAt (live n) place)
     received-read there =
         ap (λ (m : Message). actOf (m .to) (nodeIn n (m .to)) (m .sender) (m .kind)) (message-read place there)
@@ -351,7 +354,8 @@ module _ (n : Network) (l : Lengths n) (h : wellFormed n ≡ true) where
       → reported (committed n (written x)) r ≡ counted (applyOf n call)
   acted call d x r says at tells = (λ i. reported (committed n (written (at i))) (tells i)) ∙ ap (outcome n) says ∙ decides call
 
-  -- ---- a delivery where a message waits is refused only where the queue is full and the message would be granted
+  -- ---- a delivery where a message waits is refused only where the queue is full and the message
+  -- would be granted
   module _ (place : ℕ) (there : place < n .waiting) where
     abbrev grantable : Bool
     grantable = wouldGrant (arrivalOf n place .node) (arrivalOf n place .message .sender) (arrivalOf n place .message .kind)

@@ -1,5 +1,6 @@
--- The two functions that take any network where it lies, as one walk: the network is read whole and handed by value to a function that admits what is
--- asked, and what it gives is the task that the network is lent on to `in_place::execute` for.
+-- The two functions that take any network where it lies, as one walk: the network is read whole and
+-- handed by value to a function that admits what is asked, and what it gives is the task that the
+-- network is lent on to `in_place::execute` for.
 --     door σ τ f       the MIR of such a function: its references are said to point to σ, its second parameter has the type τ, and f admits what is asked.
 --                      The generated `function` is this by computation
 --     enters           the walk of it, where f gives a task that comes to what is asked (`Admits` of `TaskLaws.antt`)
@@ -99,7 +100,8 @@ module _ {M : Type 1} (𝓤 : URA M) (H : Heap 𝓤) (A : Atoms 𝓤) (W : Given
         move ! (12 ∷ 13 ∷ 14 ∷ []) $
         open-ref ! tt (mem net.the-row) {x = n} {b = b} {o = o} $
         use1 W (given (Known n) (‵ (lies b o n))) (known 𝓤 H A W b o n) $ learn ! (λ k.
-        -- [the network; the open borrow; what is observed; the right to change it; _5 to _0]. _4 = *_1, _3 = f(_4, _2)
+        -- [the network; the open borrow; what is observed; the right to change it; _5 to _0]. _4 =
+        -- *_1, _3 = f(_4, _2)
         sets ! 6 refl (of-opd ! (load ! (from ! (hop ! (look ! 12 refl) (stop !))) (look-by ! 0 fullShare (whole-shows 𝓤 H A W b o n)))) (network-typed 𝓤 H A W n (k .is)) $
         calls-plain ! (fmOf 𝓤 H (W .laws) 𝓣) Ps a-task c known-admit (n, (x, tt)) (k .is, (x-is, tt)) g asked (λ t. Admits n t done-so) said
         (and-then ! (var ! 7 refl) (and-then ! (var ! 11 refl) (no-more !))) (λ t t-is admits.

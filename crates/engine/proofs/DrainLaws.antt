@@ -1,5 +1,6 @@
--- A drain step by step: what is still to be delivered leads where the whole drain leads, and with what was made it counts as many. Each
--- delivery at the lowest place keeps that, and where the drain does not go on it is finished. Assumes nothing.
+-- A drain step by step: what is still to be delivered leads where the whole drain leads, and with
+-- what was made it counts as many. Each delivery at the lowest place keeps that, and where the
+-- drain does not go on it is finished. Assumes nothing.
 use mathlib.Core.Path.{_≡_, refl, sym, ap, _∙_}
 use mathlib.Core.Logic.{⊎-elim, _≢_}
 use mathlib.Core.Bool.{Bool, true, false, cond, _&&_}

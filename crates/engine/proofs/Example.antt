@@ -1,5 +1,5 @@
--- A node is declared and creates a ring: all that the arrays hold after these two calls on the empty network. It computes.
--- Assumes nothing.
+-- A node is declared and creates a ring: all that the arrays hold after these two calls on the
+-- empty network. It computes. Assumes nothing.
 use mathlib.Core.Path.{_≡_, refl}
 use mathlib.Core.List.{List, [], _∷_}
 use lib.ListN.{replicate}

@@ -1,5 +1,5 @@
--- The loop over the records of a script: at each turn the code has come as far as the definition after as many records, and at the end no
--- more of them would change anything. Assumes nothing.
+-- The loop over the records of a script: at each turn the code has come as far as the definition
+-- after as many records, and at the end no more of them would change anything. Assumes nothing.
 use mathlib.Core.Path.{_≡_, refl, sym, ap, _∙_}
 use mathlib.Core.Bool.{true}
 use mathlib.Core.List.{List, _++_}

@@ -1,5 +1,6 @@
--- A record on the arrays of a well-formed network: it leaves a well-formed one and posts no more than a few messages; and where it is refused, on
--- whatever network, the very network comes back. Assumes nothing.
+-- A record on the arrays of a well-formed network: it leaves a well-formed one and posts no more
+-- than a few messages; and where it is refused, on whatever network, the very network comes back.
+-- Assumes nothing.
 use mathlib.Core.Path.{_≡_, sym, ap, _∙_}
 use mathlib.Core.Logic.{⊎-elim}
 use mathlib.Core.Bool.{true, false}

@@ -1,5 +1,6 @@
--- The questions of a network that a list of calls makes: each says of the arrays what it says of the lists, since that network is well formed
--- and its lists are those of the calls. So the owner is found from every inserted node, and 31 is never said. Assumes nothing.
+-- The questions of a network that a list of calls makes: each says of the arrays what it says of
+-- the lists, since that network is well formed and its lists are those of the calls. So the owner
+-- is found from every inserted node, and 31 is never said. Assumes nothing.
 use mathlib.Core.Path.{_≡_, ap}
 use mathlib.Core.List.{List}
 use Prim.Native.Nat.{ℕ}

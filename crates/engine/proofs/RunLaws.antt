@@ -1,6 +1,7 @@
--- Calls on the arrays follow the calls on the lists step by step, from the empty network on; a network that is not well formed comes back with
--- 6, and a refused call hands back the very network. A drain leads where its deliveries lead as calls, so what holds after every list of calls
--- holds after a drain. Assumes nothing.
+-- Calls on the arrays follow the calls on the lists step by step, from the empty network on; a
+-- network that is not well formed comes back with 6, and a refused call hands back the very
+-- network. A drain leads where its deliveries lead as calls, so what holds after every list of
+-- calls holds after a drain. Assumes nothing.
 use mathlib.Core.Path.{_≡_, refl, sym, ap, _∙_}
 use mathlib.Core.Logic.{⊎-elim}
 use mathlib.Core.Bool.{true, false}

@@ -1,5 +1,6 @@
--- What the network's rules come to after a node's step. A step's own rules come first, and where they let it pass, what it posts is known:
--- so that the rule on room, read off the posts, is refusal 28 as R6.7, R6.8, R6.9 have it. Assumes nothing.
+-- What the network's rules come to after a node's step. A step's own rules come first, and where
+-- they let it pass, what it posts is known: so that the rule on room, read off the posts, is
+-- refusal 28 as R6.7, R6.8, R6.9 have it. Assumes nothing.
 use mathlib.Core.Path.{_≡_, refl, sym, ap, _∙_}
 use mathlib.Core.Logic.{⊎-elim}
 use mathlib.Core.Bool.{Bool, true, false, not, _&&_, cond, and-true, and-false}
@@ -77,7 +78,8 @@ full-by-one : (n : ℕ) → not (leb (n + 1) queueLimit) ≡ not (ltb n queueLim
 full-by-one n = let e : n + 1 ≡ suc n = omega arith in rw e
 
 -- ---- the rules after a step's own
--- rest is what the rules name, and what the code tests instead agrees with it where the step's own rules let it pass
+-- rest is what the rules name, and what the code tests instead agrees with it where the step's own
+-- rules let it pass
 after-own : (rules rest : List Rule) (u : Node) (accepted : Effect) (o : Outcome) (tested : Option Reason) → accepted .said ≡ done o
     → (first rules ≡ none → tested ≡ first rest) → afterStep (ruled rules (refused u) accepted .said) tested ≡ first (rules ++ rest)
 after-own rules rest u accepted o tested says agrees = go (first rules) refl ∙ sym (first-append rules rest)

@@ -1,5 +1,6 @@
--- A step of the code is a step of the definition: what is asked at the cursor is done to the lists that the arrays hold as to the arrays, and its line
--- follows what has been printed. Assumes nothing.
+-- A step of the code is a step of the definition: what is asked at the cursor is done to the lists
+-- that the arrays hold as to the arrays, and its line follows what has been printed. Assumes
+-- nothing.
 use mathlib.Core.Path.{_≡_, refl, sym, ap, _∙_}
 use mathlib.Core.Bool.{true}
 use mathlib.Core.List.{List, _++_}
@@ -41,7 +42,8 @@ use Rattle.task.specs.declared.Asked.{Asked}
 use Rattle.engine.specs.Computed.{doneOn, Allowed}
 use Rattle.task.specs.Tasks.{Asks}
 
--- ---- what a step starts from and ends in, and how far that is; what the contract of a step asks, and what it ensures
+-- ---- what a step starts from and ends in, and how far that is; what the contract of a step asks,
+-- and what it ensures
 pub record State : Type 0 where
   pub kept : Kept
   pub text : List ℕ
@@ -77,7 +79,8 @@ Left p r after x text buffer =
     × (take (r .used) buffer ≡ take (p .used) text ++ lineOf (p .ordinal + 1) (x .said))
     × (r .used ≤ p .used + 40)
 
--- ---- a step: what is asked was done on a well-formed network, and it was not the end of the script
+-- ---- a step: what is asked was done on a well-formed network, and it was not the end of the
+-- script
 module _ (script : List ℕ) (n : Network) (l : Lengths n) (h : wellFormed n ≡ true) where
   -- what is known of what was done
   pub record Done (x : Counted) (at : ℕ) (a : Asked) : Type 0 where

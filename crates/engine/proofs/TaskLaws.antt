@@ -1,5 +1,7 @@
--- A record on the arrays of a well-formed network is its task: a call, a question or a drain is that of the lists, and where a field is refused the
--- very network comes back with the reason. A question leaves the network as it is, and a task that is admitted is what was asked. Assumes nothing.
+-- A record on the arrays of a well-formed network is its task: a call, a question or a drain is
+-- that of the lists, and where a field is refused the very network comes back with the reason. A
+-- question leaves the network as it is, and a task that is admitted is what was asked. Assumes
+-- nothing.
 use mathlib.Core.Path.{_≡_, refl, sym, ap, subst, _∙_}
 use mathlib.Core.Logic.{⊎-elim}
 use mathlib.Core.Bool.{true, false, cond, not}

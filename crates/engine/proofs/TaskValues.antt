@@ -1,5 +1,6 @@
--- A task and what it carries as plain data (`Data.antt` of the crate `stores`, beside `Values.antt`): for each type that a value of it is of its
--- machine type, and a walk's cases on a task. Assumes `Given`.
+-- A task and what it carries as plain data (`Data.antt` of the crate `stores`, beside
+-- `Values.antt`): for each type that a value of it is of its machine type, and a walk's cases on a
+-- task. Assumes `Given`.
 use Prim.Native.Nat.{ℕ}
 use mathlib.Core.Path.{_≡_, refl}
 use mathlib.Core.List.{List}

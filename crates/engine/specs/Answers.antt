@@ -1,5 +1,5 @@
--- What a question about a network in arrays comes to: 6 where it is not well formed, and else what the rules of the crate
--- `protocol` say of the lists that the arrays hold. Definitions only.
+-- What a question about a network in arrays comes to: 6 where it is not well formed, and else what
+-- the rules of the crate `protocol` say of the lists that the arrays hold. Definitions only.
 use Prim.Native.Nat.{ℕ}
 use mathlib.Core.Bool.{cond}
 use Rattle.refusal.specs.Code.{plain}

@@ -1,5 +1,6 @@
--- No rules stand here: it is what the code computes on its way, a decision carried out, the next delivery of a
--- drain, and what a task comes to. That this is what the rules say of a well-formed network is proved in `proofs/`. Definitions only.
+-- No rules stand here: it is what the code computes on its way, a decision carried out, the next
+-- delivery of a drain, and what a task comes to. That this is what the rules say of a well-formed
+-- network is proved in `proofs/`. Definitions only.
 use Prim.Native.Nat.{ℕ}
 use mathlib.Core.Path.{_≡_}
 use mathlib.Core.Bool.{true}

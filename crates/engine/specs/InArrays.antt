@@ -1,5 +1,5 @@
--- What a record does to a network in arrays: 6 where it is not well formed, and else what it does to the lists that the arrays
--- hold, in arrays again. Definitions only.
+-- What a record does to a network in arrays: 6 where it is not well formed, and else what it does
+-- to the lists that the arrays hold, in arrays again. Definitions only.
 use mathlib.Core.Bool.{cond}
 use Rattle.refusal.specs.Code.{plain}
 use Rattle.network.specs.declared.Network.{Network}

@@ -1,6 +1,6 @@
--- What a call or a drain on a network in arrays comes to: 6 where it is not well formed, and else what the rules of the crate
--- `protocol` make of the lists that the arrays hold, in arrays again. The rules are not written a second time. Definitions
--- only.
+-- What a call or a drain on a network in arrays comes to: 6 where it is not well formed, and else
+-- what the rules of the crate `protocol` make of the lists that the arrays hold, in arrays again.
+-- The rules are not written a second time. Definitions only.
 use Prim.Native.Nat.{ℕ}
 use mathlib.Core.Bool.{cond}
 use mathlib.Core.List.{List, [], _∷_}
@@ -18,7 +18,8 @@ use Rattle.network.specs.Arrays.{live, wellFormed, held}
 use Rattle.engine.specs.declared.Called.{Called}
 use Rattle.report.specs.declared.Report.{Report}
 
--- ---- the network left behind, the messages posted in their order, and an answer or the reason of a refusal
+-- ---- the network left behind, the messages posted in their order, and an answer or the reason of
+-- a refusal
 pub record Applied : Type 0 where
   pub network : Network
   pub posts : List Message
@@ -40,7 +41,8 @@ applyOf n call = cond (wellFormed n) (inArrays (applyToLists (live n) call)) (re
 unfoldable pub drainOf : Network → ℕ → Applied
 drainOf n budget = cond (wellFormed n) (inArrays (drainLists (live n) budget)) (refused n (plain 6))
 
--- ---- what the code hands back says all of it but the posts themselves, of which it says how many they are
+-- ---- what the code hands back says all of it but the posts themselves, of which it says how many
+-- they are
 pub record Counted : Type 0 where
   pub network : Network
   pub posted : ℕ

@@ -1,5 +1,6 @@
-// Calls, drains and tasks on a network where it lies, past the test: each lends the network to functions that decide and that write its arrays.
-// They are walked by hand, and none of them knows a rule or reads a part of what they hand on.
+// Calls, drains and tasks on a network where it lies, past the test: each lends the network to
+// functions that decide and that write its arrays. They are walked by hand, and none of them knows
+// a rule or reads a part of what they hand on.
 ghost use mathlib.Core.Path.{_≡_};
 ghost use mathlib.Core.Bool.{true};
 ghost use Prim.Native.Nat.{_<_};
@@ -22,8 +23,8 @@ fn act(network: &mut Network, call: Call) -> Report
     decision::report_in(decision)
 }
 
-// A delivery at the lowest place where one is not refused. Only a full queue has a place where a delivery finds no room, so that else the first
-// place will do.
+// A delivery at the lowest place where one is not refused. Only a full queue has a place where a
+// delivery finds no room, so that else the first place will do.
 fn deliver(network: &mut Network) -> Report
     requires { ⌜ (wellFormed (now network) ≡ true) × (0 < now network .waiting) ⌝ }
     ensures { λ r. ⌜ reported (now (network .exit)) r ≡ counted (nextDelivery (now (network .entry))) ⌝ }

@@ -1,5 +1,6 @@
-// A script from its bytes to its printout: the records one after the other from the empty network, which is kept in a local and changed where it
-// lies, a line for each. `step` has a reference to what is kept and `run` makes it; these two are walked by hand. The printout grows in a buffer
+// A script from its bytes to its printout: the records one after the other from the empty network,
+// which is kept in a local and changed where it lies, a line for each. `step` has a reference to
+// what is kept and `run` makes it; these two are walked by hand. The printout grows in a buffer
 // that no script fills: a record has three bytes at least, and its line has forty at most.
 ghost use Prim.Native.Nat.{_+_, _≤_, _<_};
 ghost use Rattle.io.specs.Counts.{Counts};
@@ -39,7 +40,8 @@ fn put_last(text: &mut [u8], at: usize, waiting: u8, posted: u32) -> usize
     printout::last_line(text, at, waiting, posted)
 }
 
-// One more record, where one begins: what it asks is done on the network where it lies, and its line is printed.
+// One more record, where one begins: what it asks is done on the network where it lies, and its
+// line is printed.
 fn step(kept: &mut Kept, script: &[u8], text: &mut [u8; 1048576], p: Progress) -> Progress
     requires { ⌜ (wellFormed (now kept .network) ≡ true) × (p .at < length (now script)) × (p .used + 40 ≤ 1_048_576) × (p .ordinal < 100_000) × (p .posted < 100_000_000) ⌝ }
     ensures { λ r. ⌜ (reached (now (kept .exit) .network) r (now (text .exit)) ≡ stepOf (now (script .entry)) (reached (now (kept .entry) .network) p (now (text .entry))))
@@ -82,8 +84,8 @@ fn run(script: &[u8], text: &mut [u8; 1048576], start: usize) -> usize
     finish(text, kept, p)
 }
 
-// The printout of a whole script, and how many bytes it has. No printout is longer than the buffer; what stands in the buffer past the
-// printout is left open.
+// The printout of a whole script, and how many bytes it has. No printout is longer than the buffer;
+// what stands in the buffer past the printout is left open.
 pub fn printout(script: &[u8], text: &mut [u8; 1048576]) -> usize
     ensures { λ r. ⌜ Counts r (now (text .exit)) ⌝ }
     ensures { λ r. ⌜ take r (now (text .exit)) ≡ printoutOf (now (script .entry)) ⌝ }

@@ -1,4 +1,5 @@
-// What any network is asked without being changed: who is inserted (R6.11), and which node owns a serial (R7.3).
+// What any network is asked without being changed: who is inserted (R6.11), and which node owns a
+// serial (R7.3).
 ghost use mathlib.Core.Path.{_≡_};
 ghost use Rattle.protocol.specs.Answer.{answered};
 ghost use Rattle.engine.specs.Answers.{insertedOf, ownerOf};

@@ -1,5 +1,6 @@
--- Laws of the intervals, for any natural numbers as keys. `Between` says as facts what the test says; `between-iff` and
--- `within-iff` tie the two together, and everything else is proved of the facts, by comparing keys. Assumes nothing.
+-- Laws of the intervals, for any natural numbers as keys. `Between` says as facts what the test
+-- says; `between-iff` and `within-iff` tie the two together, and everything else is proved of the
+-- facts, by comparing keys. Assumes nothing.
 use mathlib.Core.Path.{_≡_, sym, _∙_}
 use mathlib.Core.Logic.{_⊎_, inl, inr, ⊎-elim, _↔_, _≢_}
 use mathlib.Core.Bool.{not, _&&_, _||_}

@@ -1,5 +1,6 @@
--- A ring with one member more, and with one less. The ring is cut where the change is made and read from there on; all links but one
--- or two are kept, and the key of a new member says where in the order it stands. Assumes nothing.
+-- A ring with one member more, and with one less. The ring is cut where the change is made and read
+-- from there on; all links but one or two are kept, and the key of a new member says where in the
+-- order it stands. Assumes nothing.
 use mathlib.Core.Path.{_≡_, refl, sym, ap, _∙_}
 use mathlib.Core.Logic.{inl, ⊎-elim, _≢_}
 use mathlib.Core.List.{List, [], _∷_, _++_}

@@ -1,5 +1,6 @@
--- What holds in a ring: each member has one successor and one predecessor, both members, and the walk from each goes once round. The
--- ring is cut at a member s and read from s on, as a trail from s to s; the walk follows that trail. Assumes nothing.
+-- What holds in a ring: each member has one successor and one predecessor, both members, and the
+-- walk from each goes once round. The ring is cut at a member s and read from s on, as a trail from
+-- s to s; the walk follows that trail. Assumes nothing.
 use mathlib.Core.Path.{_≡_, refl, sym, ap, _∙_}
 use mathlib.Core.Logic.{_↔_, _≢_}
 use mathlib.Core.Bool.{Bool}

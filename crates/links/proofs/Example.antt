@@ -1,5 +1,6 @@
--- Three nodes with the keys 5, 9 and 7, linked as a ring: the words of `Walk` computed on them, then the circuit, a predecessor, a
--- member more and a member less, so that no hypothesis of the theorems is void. Assumes nothing.
+-- Three nodes with the keys 5, 9 and 7, linked as a ring: the words of `Walk` computed on them,
+-- then the circuit, a predecessor, a member more and a member less, so that no hypothesis of the
+-- theorems is void. Assumes nothing.
 use mathlib.Core.Path.{_≡_, refl, sym}
 use mathlib.Core.Logic.{⊎-elim, _≢_}
 use mathlib.Core.List.{[], _∷_}

@@ -1,5 +1,6 @@
--- Lists of nodes, nothing of links: where a member stands, what holds of every member, how many pass a test, ascending lists with a
--- node more or less, and how long they can be. By induction on the list, or on the numbers allowed. Assumes nothing.
+-- Lists of nodes, nothing of links: where a member stands, what holds of every member, how many
+-- pass a test, ascending lists with a node more or less, and how long they can be. By induction on
+-- the list, or on the numbers allowed. Assumes nothing.
 use mathlib.Core.Path.{_≡_, refl, sym, ap}
 use mathlib.Core.Logic.{_⊎_, inl, inr, ⊎-elim, _↔_, _≢_}
 use mathlib.Core.Bool.{Bool, true, false}

@@ -1,6 +1,7 @@
--- Which member of a ring owns a key d: the one with d in its interval, from its own key up to the key of its right link. The ring is
--- read as an ascending trail, which each of its nodes cuts into two intervals that share nothing: so one member owns d and no other
--- does. The walk from any member meets it before it comes home. Assumes nothing.
+-- Which member of a ring owns a key d: the one with d in its interval, from its own key up to the
+-- key of its right link. The ring is read as an ascending trail, which each of its nodes cuts into
+-- two intervals that share nothing: so one member owns d and no other does. The walk from any
+-- member meets it before it comes home. Assumes nothing.
 use mathlib.Core.Path.{_≡_, refl, sym, ap, _∙_}
 use mathlib.Core.Logic.{inl, inr, ⊎-elim}
 use mathlib.Core.List.{List, [], _∷_, _++_}

@@ -1,5 +1,5 @@
--- Ascending lists: the members alone say which list it is, and a list with a member more or less is ascending again. By induction on the
--- list. Assumes nothing.
+-- Ascending lists: the members alone say which list it is, and a list with a member more or less is
+-- ascending again. By induction on the list. Assumes nothing.
 use mathlib.Core.Path.{_≡_, refl, sym, ap, _∙_}
 use mathlib.Core.Logic.{inl, inr, ⊎-elim, _↔_, _≢_}
 use mathlib.Core.List.{List, [], _∷_}

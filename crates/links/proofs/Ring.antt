@@ -1,5 +1,6 @@
--- The words of the proofs about rings: `With` and `Without` say that a ring has one member more, or one less. What a ring is, and who is
--- one of a list, comes along under the names used here. Definitions only.
+-- The words of the proofs about rings: `With` and `Without` say that a ring has one member more, or
+-- one less. What a ring is, and who is one of a list, comes along under the names used here.
+-- Definitions only.
 use mathlib.Core.Path.{_≡_}
 use mathlib.Core.Logic.{_⊎_, _↔_, _≢_}
 use mathlib.Core.List.{List}

@@ -1,5 +1,6 @@
--- Trails of right links: a trail in two parts, a closed trail read from another of its nodes on, a trail whose nodes keep their links,
--- and the walk along a trail. By induction on the list. Assumes nothing.
+-- Trails of right links: a trail in two parts, a closed trail read from another of its nodes on, a
+-- trail whose nodes keep their links, and the walk along a trail. By induction on the list. Assumes
+-- nothing.
 use mathlib.Core.Path.{_≡_, refl, ap, _∙_}
 use mathlib.Core.List.{List, [], _∷_, _++_, append-nil}
 use Prim.Native.Nat.{ℕ}

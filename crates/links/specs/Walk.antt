@@ -1,5 +1,6 @@
--- The words of the theorem on the ring: a walk along right links, and what it means that a walk goes once round the members.
--- A node is a number; `key` gives its key and `right` its right link. Definitions only.
+-- The words of the theorem on the ring: a walk along right links, and what it means that a walk
+-- goes once round the members. A node is a number; `key` gives its key and `right` its right link.
+-- Definitions only.
 use mathlib.Core.Path.{_≡_}
 use mathlib.Core.List.{List, [], _∷_}
 use Prim.Native.Nat.{ℕ, zero, suc}

@@ -1,5 +1,6 @@
--- What a well-formed network is asked is what its lists are asked: no count is past its array, and each number that is met is below the count,
--- so that the node read is the one of the lists; and the number of the word's ones is how many are inserted. Assumes nothing.
+-- What a well-formed network is asked is what its lists are asked: no count is past its array, and
+-- each number that is met is below the count, so that the node read is the one of the lists; and
+-- the number of the word's ones is how many are inserted. Assumes nothing.
 use mathlib.Core.Path.{_≡_, sym, _∙_}
 use mathlib.Core.Bool.{true}
 use Prim.Native.Nat.{ℕ, _<_}

@@ -1,5 +1,5 @@
--- What the loops need: a count within an array is not cut and a number within it is not reduced, and a word is put together bit by bit. Assumes
--- nothing.
+-- What the loops need: a count within an array is not cut and a number within it is not reduced,
+-- and a word is put together bit by bit. Assumes nothing.
 use mathlib.Core.Path.{_≡_, refl, sym, ap, _∙_}
 use mathlib.Core.Bool.{Bool, true, false}
 use mathlib.Core.List.{List}

@@ -1,5 +1,6 @@
--- No rules stand here: it is what the code computes on a network's arrays, for every network, where it is asked who is inserted. What this comes
--- to on the lists of a well-formed network is proved in `proofs/`. Definitions only.
+-- No rules stand here: it is what the code computes on a network's arrays, for every network, where
+-- it is asked who is inserted. What this comes to on the lists of a well-formed network is proved
+-- in `proofs/`. Definitions only.
 use Prim.Native.Nat.{ℕ}
 use mathlib.Core.Bool.{Bool}
 use lib.Count.{ones}

@@ -1,6 +1,7 @@
-// Who is inserted (R4.1, R4.2), for every network: a node's status says it, or leaves it to the messages that wait. A number
-// past an array counts from its beginning again, and counts past the arrays are cut. What this comes to on a well-formed
-// network's lists is proved in `proofs/`; whether a network is well formed is tested in a crate above.
+// Who is inserted (R4.1, R4.2), for every network: a node's status says it, or leaves it to the
+// messages that wait. A number past an array counts from its beginning again, and counts past the
+// arrays are cut. What this comes to on a well-formed network's lists is proved in `proofs/`;
+// whether a network is well formed is tested in a crate above.
 ghost use mathlib.Core.Path.{_≡_};
 ghost use Prim.Native.Nat.{_≤_};
 ghost use lib.ListN.{take};
@@ -32,7 +33,8 @@ fn ack_waits(messages: [Message; 64], waiting: usize, number: u8) -> bool
     found
 }
 
-// Whether a node of this status is inserted; the messages are searched only where that depends on them.
+// Whether a node of this status is inserted; the messages are searched only where that depends on
+// them.
 fn is_inserted(status: Status, messages: [Message; 64], waiting: usize, number: u8) -> bool
     requires { ⌜ waiting ≤ 64 ⌝ }
     ensures { λ r. ⌜ r ≡ isInserted status (any (isAckTo number) (take waiting messages)) ⌝ }

@@ -9,7 +9,8 @@ use std::num::wrapping_sub_usize as minus;
 // The ordinal of the last line, in the row of counts.
 const ORDINAL: usize = 6;
 
-// The word for an answer, in cells of 12: from DECLARED on one for each, and last the one for all refusals.
+// The word for an answer, in cells of 12: from DECLARED on one for each, and last the one for all
+// refusals.
 pub fn name(page: &mut Page, at: usize, answer: usize) -> usize {
     let names =
         b"bench~~~~~~~owner~~~~~~~ran~~~~~~~~~created~~~~~waiting~~~~~out~~~~~~~~~granted~~~~~denied~~~~~~\
@@ -24,7 +25,8 @@ pub fn name(page: &mut Page, at: usize, answer: usize) -> usize {
     say(page, at, names, start, start + 12, answer, 0)
 }
 
-// The end of a line, in cells of 10: those of the first three answers, with their values, and that of all others.
+// The end of a line, in cells of 10: those of the first three answers, with their values, and that
+// of all others.
 fn finish(page: &mut Page, at: usize, answer: usize, one: usize, two: usize) -> usize {
     let ends = b" # key $\n~ # hops $\n # left $\n\n~~~~~~~~~";
     let cell = if answer >= DECLARED && answer < CREATED {

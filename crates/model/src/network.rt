@@ -1,13 +1,14 @@
-// The network of paper 01, written a second time and otherwise: a sheet of numbers, with the messages on the way as a chain of slots.
-// What an order is answered is found first, with the network untouched; then the network changes, if the answer is no refusal.
+// The network of paper 01, written a second time and otherwise: a sheet of numbers, with the
+// messages on the way as a chain of slots. What an order is answered is found first, with the
+// network untouched; then the network changes, if the answer is no refusal.
 use crate::packed::*;
 use crate::rules::*;
 use crate::sheet::*;
 use std::num::wrapping_add_usize as plus;
 use std::num::wrapping_sub_usize as minus;
 
-// Rows with a place for each node: the node, its key, and, so many rows on from AWAITED as a kind's number, how many messages of that kind are on
-// the way to it.
+// Rows with a place for each node: the node, its key, and, so many rows on from AWAITED as a kind's
+// number, how many messages of that kind are on the way to it.
 const WORD: usize = 0;
 
 pub const KEY: usize = 1;
@@ -20,12 +21,14 @@ const ACKS: usize = 4;
 
 const NOTICES: usize = 6;
 
-// Rows with a place for each slot, from 1. Place 0 of NEXT leads to the slot of the first message, and each slot to the one after.
+// Rows with a place for each slot, from 1. Place 0 of NEXT leads to the slot of the first message,
+// and each slot to the one after.
 const MESSAGE: usize = 7;
 
 const NEXT: usize = 8;
 
-// The row of counts, and its places: PASSED is how often a drain passed a place over, MADE the deliveries of the last one.
+// The row of counts, and its places: PASSED is how often a drain passed a place over, MADE the
+// deliveries of the last one.
 pub(crate) const COUNTS: usize = 9;
 
 pub const NODES: usize = 0;

@@ -1,5 +1,5 @@
-// A node and a message as one number each, to base 64: a status, a kind or a node is one digit, and a number of 16 bits has three.
-// A field is named by the weight of its lowest digit.
+// A node and a message as one number each, to base 64: a status, a kind or a node is one digit, and
+// a number of 16 bits has three. A field is named by the weight of its lowest digit.
 
 // The fields of a node.
 pub(crate) const STATUS: usize = 1;
@@ -20,7 +20,8 @@ pub(crate) const IN: usize = 2;
 
 pub(crate) const DEL: usize = 3;
 
-// The fields of a message. LINK is the new right link that a SetR asks for, or the left link that a SetL tells. No message is 0, which stands for none.
+// The fields of a message. LINK is the new right link that a SetR asks for, or the left link that a
+// SetL tells. No message is 0, which stands for none.
 pub(crate) const KIND: usize = 1;
 
 pub(crate) const SENDER: usize = 64;

@@ -37,7 +37,8 @@ fn print(sheet: &mut Sheet, script: &[u8], page: &mut Page) -> usize {
     )
 }
 
-// Where another printout of a script differs first from the model's, counted from 1; 0 where the two are the same.
+// Where another printout of a script differs first from the model's, counted from 1; 0 where the
+// two are the same.
 pub fn first_difference(sheet: &mut Sheet, script: &[u8], other: &Page, length: usize) -> usize {
     let mut own: Page = [0u8; 1048576];
     let own_length = print(sheet, script, &mut own);

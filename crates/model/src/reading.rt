@@ -1,5 +1,6 @@
-// A script, read byte by byte: a machine that is fed one byte at a time and answers when that byte completes a record.
-// The bytes of the record stand in a row of the network, the mark at 0 and 1 and the fields after it, and are judged once all are there.
+// A script, read byte by byte: a machine that is fed one byte at a time and answers when that byte
+// completes a record. The bytes of the record stand in a row of the network, the mark at 0 and 1
+// and the fields after it, and are judged once all are there.
 use crate::network::*;
 use crate::rules::*;
 use crate::sheet::*;
@@ -166,7 +167,8 @@ fn execute(network: &mut Sheet, order: usize) -> usize {
 
 const INCOMPLETE: usize = 101;
 
-// What stands against a record of which so many bytes have come, or 0; INCOMPLETE where some are wanting.
+// What stands against a record of which so many bytes have come, or 0; INCOMPLETE where some are
+// wanting.
 fn judged(network: &Sheet, taken: usize) -> usize {
     let mark = order(network);
     if taken < 2 {

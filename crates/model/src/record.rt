@@ -1,5 +1,6 @@
-// A record of a script as one number: its order, its first byte, and up to four bytes more, the first of them lowest.
-// Orders without a first byte of their own, which declare and drain, leave it out.
+// A record of a script as one number: its order, its first byte, and up to four bytes more, the
+// first of them lowest. Orders without a first byte of their own, which declare and drain, leave it
+// out.
 use crate::reading::*;
 use crate::text::*;
 ghost use Prim.Native.Nat.{_<_};

@@ -1,5 +1,6 @@
-// What a message does to the node that it reaches, after 004 Fig. 1 and paper 01: the outcome, the node afterwards and the messages posted,
-// each a function of two numbers, the node and the message.
+// What a message does to the node that it reaches, after 004 Fig. 1 and paper 01: the outcome, the
+// node afterwards and the messages posted, each a function of two numbers, the node and the
+// message.
 use crate::packed::*;
 
 // The answers to a record; below 32 stand the refusals. The first three have two values.
@@ -135,7 +136,8 @@ pub(crate) fn second_post(at: usize, taken: usize, outcome: usize) -> usize {
     )
 }
 
-// What an order or a delivery does: the answer, and, where that is no refusal, a node with what it is from then on, and up to two messages to post.
+// What an order or a delivery does: the answer, and, where that is no refusal, a node with what it
+// is from then on, and up to two messages to post.
 pub(crate) struct Step {
     pub(crate) answer: usize,
     pub(crate) node: usize,

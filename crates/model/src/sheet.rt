@@ -1,5 +1,6 @@
-// A sheet of numbers: 32 rows of 128 places. The upper half is the network; the lower half is left to whoever uses the model.
-// A place past the end reads as 0 and is never written, and sums wrap, so nobody who uses a sheet has a bound to show.
+// A sheet of numbers: 32 rows of 128 places. The upper half is the network; the lower half is left
+// to whoever uses the model. A place past the end reads as 0 and is never written, and sums wrap,
+// so nobody who uses a sheet has a bound to show.
 use std::num::wrapping_add_usize as plus;
 
 pub type Sheet = [usize; 4096];

@@ -1,5 +1,6 @@
-// Text and scripts, written byte by byte onto a page. Each function takes the place to write at and answers the place after.
-// What would lie past the page is left out, so nobody who writes has a bound to show.
+// Text and scripts, written byte by byte onto a page. Each function takes the place to write at and
+// answers the place after. What would lie past the page is left out, so nobody who writes has a
+// bound to show.
 use std::num::wrapping_add_usize as plus;
 
 pub type Page = [u8; 1048576];
@@ -38,7 +39,8 @@ pub(crate) fn difference(one: &Page, length: usize, other: &Page, its_length: us
     }
 }
 
-// A number below ten thousand million in decimal: from the highest digit that is not 0, and the last one in any case.
+// A number below ten thousand million in decimal: from the highest digit that is not 0, and the
+// last one in any case.
 fn number(page: &mut Page, at: usize, value: usize) -> usize {
     let mut to = at;
     let mut power: usize = 1000000000;

@@ -1,5 +1,6 @@
--- The arrays and the lists of a network say the same: the lists that `held` puts into arrays come out of them by `live`, and a well-formed
--- network is what `held` makes of its own lists. Assumes nothing.
+-- The arrays and the lists of a network say the same: the lists that `held` puts into arrays come
+-- out of them by `live`, and a well-formed network is what `held` makes of its own lists. Assumes
+-- nothing.
 use mathlib.Core.Path.{_≡_, refl}
 use mathlib.Core.Bool.{Bool, true, not, _&&_}
 use mathlib.Core.List.{List, [], _∷_}

@@ -1,6 +1,7 @@
--- The clauses of a network's well-formedness, as the code tests them: first the limits, then what stands in every place of the two arrays,
--- and then the keys and the exchanges of the nodes, which the code has in arrays of their own. An allowance past the nodes declared is
--- never called on, since a message that fits concerns no such node. Assumes nothing.
+-- The clauses of a network's well-formedness, as the code tests them: first the limits, then what
+-- stands in every place of the two arrays, and then the keys and the exchanges of the nodes, which
+-- the code has in arrays of their own. An allowance past the nodes declared is never called on,
+-- since a message that fits concerns no such node. Assumes nothing.
 use mathlib.Core.Path.{_≡_, refl, sym, ap, _∙_}
 use mathlib.Core.Logic.{⊎-elim}
 use mathlib.Core.Bool.{Bool, true, false, not, _&&_, _||_, and-true, and-false, and-comm}

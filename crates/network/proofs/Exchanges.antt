@@ -1,6 +1,7 @@
--- The exchanges of every node counted in one walk over the messages, each taking one off its node's allowance: at every turn the exchanges
--- passed and what is left of the allowance make up the allowance. So a node whose allowance has run out before one exchange more has too
--- many; and where the walk ends, no node has. Assumes nothing.
+-- The exchanges of every node counted in one walk over the messages, each taking one off its node's
+-- allowance: at every turn the exchanges passed and what is left of the allowance make up the
+-- allowance. So a node whose allowance has run out before one exchange more has too many; and where
+-- the walk ends, no node has. Assumes nothing.
 use mathlib.Core.Path.{_≡_, refl, sym, ap, _∙_}
 use mathlib.Core.Logic.{_≢_}
 use mathlib.Core.Bool.{Bool, true, false, _&&_, _||_, or-false}

@@ -1,4 +1,5 @@
--- The arrays of a network that a function is handed have 32 and 64 places: it is part of what owning a value of the type says. Assumes nothing.
+-- The arrays of a network that a function is handed have 32 and 64 places: it is part of what
+-- owning a value of the type says. Assumes nothing.
 use mathlib.Core.Path.{_≡_}
 use mathlib.Core.List.{List}
 use lib.ListN.{length, length-map}

@@ -1,5 +1,6 @@
--- What the arrays of a well-formed network hold in the places before the counts is what its lists hold, node by node and message by
--- message: no count is above the length of its array, so each such place is one of both. Assumes nothing.
+-- What the arrays of a well-formed network hold in the places before the counts is what its lists
+-- hold, node by node and message by message: no count is above the length of its array, so each
+-- such place is one of both. Assumes nothing.
 use mathlib.Core.Path.{_≡_, ap, _∙_}
 use mathlib.Core.Bool.{true}
 use Prim.Native.Nat.{ℕ, _<_}

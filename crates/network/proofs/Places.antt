@@ -1,5 +1,6 @@
--- An array walked place by place: what a walk stores, and what a test of every place says of the array's list, where the first places
--- hold things and the rest hold blanks. By going up to the bound, one place more each time. Assumes nothing.
+-- An array walked place by place: what a walk stores, and what a test of every place says of the
+-- array's list, where the first places hold things and the rest hold blanks. By going up to the
+-- bound, one place more each time. Assumes nothing.
 use mathlib.Core.Path.{_≡_, refl, ap, _∙_}
 use mathlib.Core.Bool.{Bool, true, _&&_, and-true, and-assoc}
 use mathlib.Core.List.{List, [], _∷_}

@@ -1,5 +1,6 @@
--- A network in fixed arrays: which lists its arrays hold, when it is well formed, and the arrays that hold given lists. What
--- is asked of the lists is well-formedness as the crate `protocol` has it. Definitions only.
+-- A network in fixed arrays: which lists its arrays hold, when it is well formed, and the arrays
+-- that hold given lists. What is asked of the lists is well-formedness as the crate `protocol` has
+-- it. Definitions only.
 use Prim.Native.Nat.{ℕ, _-_}
 use mathlib.Core.Bool.{Bool, not, _&&_}
 use mathlib.Core.List.{List, _++_}

@@ -1,5 +1,6 @@
--- No rules stand here: it is what the walks of the well-formedness test compute, a test of every place of an array, and whose
--- exchange a message is. That they come to the clauses of well-formedness is proved in `proofs/`. Definitions only.
+-- No rules stand here: it is what the walks of the well-formedness test compute, a test of every
+-- place of an array, and whose exchange a message is. That they come to the clauses of
+-- well-formedness is proved in `proofs/`. Definitions only.
 use Prim.Native.Nat.{ℕ}
 use mathlib.Core.List.{List}
 use mathlib.Core.Bool.{Bool, cond}

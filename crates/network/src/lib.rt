@@ -1,5 +1,6 @@
-// A network (paper 01: a floor) in fixed arrays: its nodes and its waiting messages, and whether it is well formed. `specs/`
-// says which lists the arrays hold; the calls on a network, and the questions it is asked, stand in crates above.
+// A network (paper 01: a floor) in fixed arrays: its nodes and its waiting messages, and whether it
+// is well formed. `specs/` says which lists the arrays hold; the calls on a network, and the
+// questions it is asked, stand in crates above.
 ghost use mathlib.Core.Path.{_≡_};
 ghost use Rattle.network.specs.Arrays.{empty};
 use node::Node;
@@ -16,7 +17,8 @@ pub const CAPACITY: u8 = 32;
 
 pub const QUEUE_LIMIT: u8 = 64;
 
-// The first `count` nodes are declared, and a node's number is its place; the first `waiting` messages wait, in the order posted.
+// The first `count` nodes are declared, and a node's number is its place; the first `waiting`
+// messages wait, in the order posted.
 pub struct Network {
     pub nodes: [Node; 32],
     pub count: u8,
@@ -24,8 +26,8 @@ pub struct Network {
     pub waiting: u8,
 }
 
-// R2.3: what a vacant place holds, of the nodes and of the messages. Constants, so that an empty network is copied and not
-// made place by place.
+// R2.3: what a vacant place holds, of the nodes and of the messages. Constants, so that an empty
+// network is copied and not made place by place.
 const VACANT_NODE: Node = Node {
     status: Status::Out,
     key: 0,

@@ -1,4 +1,5 @@
-// Well-formedness of a network (docs/RULES.md, section 2): its clauses, each by one walk over an array.
+// Well-formedness of a network (docs/RULES.md, section 2): its clauses, each by one walk over an
+// array.
 ghost use mathlib.Core.Path.{_≡_};
 ghost use mathlib.Core.Bool.{true, not, cond};
 ghost use Prim.Native.Nat.{ℕ, _<_, _≤_};
@@ -153,7 +154,8 @@ fn allowances(nodes: [Node; 32]) -> [u8; 32]
     allowed
 }
 
-// Whose exchange a message is: the sender's of a request, the addressee's of an answer, and nobody's of a notice.
+// Whose exchange a message is: the sender's of a request, the addressee's of an answer, and
+// nobody's of a notice.
 fn party(message: Message) -> Link
     ensures { λ r. ⌜ r ≡ partyBy (message .kind) message ⌝ }
 {
@@ -170,7 +172,8 @@ fn party(message: Message) -> Link
     }
 }
 
-// Whether no node has more exchanges than it may have. Each message takes one off its party's allowance.
+// Whether no node has more exchanges than it may have. Each message takes one off its party's
+// allowance.
 fn exchanges_fit(messages: [Message; 64], waiting: usize, allowed: [u8; 32]) -> bool
     requires { ⌜ (waiting ≤ 64) × (every (messageFits 32) (take waiting messages) ≡ true) ⌝ }
     ensures { λ r. ⌜ r ≡ everyBelow (length allowed) (λ u. leb (count (isExchangeOf u) (take waiting messages)) (getD allowed u 0)) ⌝ }

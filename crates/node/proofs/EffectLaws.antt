@@ -1,5 +1,5 @@
--- What an effect says fixes the whole answer of a step: two answers that say the same are the same. So a contract that gives a step's
--- effect leaves nothing of the answer open. Assumes nothing.
+-- What an effect says fixes the whole answer of a step: two answers that say the same are the same.
+-- So a contract that gives a step's effect leaves nothing of the answer open. Assumes nothing.
 use mathlib.Core.Path.{_≡_, refl, ap}
 use Rattle.refusal.proofs.Laws.{reason-injective}
 use Rattle.parts.specs.declared.Posts.{Posts}

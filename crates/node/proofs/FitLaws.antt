@@ -1,6 +1,6 @@
--- A step keeps things well formed: among any number of nodes, a node that fits is left as one that fits, and what it posts fits. So no
--- step of a well-formed node leads to a refusal 6 of the next, and whoever holds many nodes has their part of it here.
--- Assumes nothing.
+-- A step keeps things well formed: among any number of nodes, a node that fits is left as one that
+-- fits, and what it posts fits. So no step of a well-formed node leads to a refusal 6 of the next,
+-- and whoever holds many nodes has their part of it here. Assumes nothing.
 use mathlib.Core.Path.{_≡_, refl, ap}
 use mathlib.Core.Bool.{Bool, true, false, not, _&&_, _||_, cond}
 use mathlib.Core.List.{List, [], _∷_}
@@ -223,7 +223,8 @@ module _ (count me : ℕ) (me-in : ltb me count ≡ true) (u : Node) (f : NodeFi
       let facts = message-facts count m h in
       ruled-fits f (first (receiveRules me u m)) (actOf me u (m .sender) (m .kind)) (λ clear. cond-fits (isOut (u .status)) _ _ (λ _. quiet-fits f Dropped) (λ _. kind-fits (m .sender) (facts .sender) (m .kind) (facts .kind)))
 
--- ---- what a node that fits has: its links unless it is out, its right number while it is in or del
+-- ---- what a node that fits has: its links unless it is out, its right number while it is in or
+-- del
 link-named : (l : Link) → linked l ≡ true → l ≡ To (target l)
 link-named Unlinked h = impossible h
 link-named (To n) h = refl

@@ -1,5 +1,6 @@
--- What one node does with an order or a message (docs/RULES.md, section 5), in the order of the rules, each with its
--- refusals (R6.4) before it. Every definition fixes the whole node, every message and the outcome. Definitions only.
+-- What one node does with an order or a message (docs/RULES.md, section 5), in the order of the
+-- rules, each with its refusals (R6.4) before it. Every definition fixes the whole node, every
+-- message and the outcome. Definitions only.
 use Prim.Native.Nat.{ℕ}
 use mathlib.Core.Bool.{Bool, false, not, _&&_, _||_, cond}
 use mathlib.Core.List.{List, [], _∷_}
@@ -29,7 +30,8 @@ use Rattle.parts.specs.Posts.{posted}
 use Rattle.node.specs.Shape.{wellFormed, deliverable, peerFits}
 
 -- ---- what a step says
--- R1.9: the node left behind, the messages posted in their order, and the outcome or the reason of a refusal
+-- R1.9: the node left behind, the messages posted in their order, and the outcome or the reason of
+-- a refusal
 pub record Effect : Type 0 where
   pub node : Node
   pub posts : List Message
@@ -69,8 +71,8 @@ setRNak sender to = record { sender = sender; to = to; kind = SetRNak }
 abbrev pub setL : ℕ → ℕ → ℕ → Number → Message
 setL sender to left number = record { sender = sender; to = to; kind = SetL left number }
 
--- ---- R1.5: a node changed, by one setter for its status and one for each link with its number, which leave all other
--- fields as they were
+-- ---- R1.5: a node changed, by one setter for its status and one for each link with its number,
+-- which leave all other fields as they were
 -- R1.5: a change of status leaves the other fields
 abbrev pub withStatus : Status → Node → Node
 withStatus s u = record { status = s; key = u .key; left = u .left; right = u .right; lseq = u .lseq; rseq = u .rseq }
@@ -157,7 +159,8 @@ unfoldable pub leaveOf : ℕ → Node → Effect
 leaveOf me u = ruled (leaveRules me u) (refused u) (leaving me u)
 
 -- ---- SetR from v at p
--- R5.5: granted if p is in and its right link the one expected, and of a join if its right number has a next
+-- R5.5: granted if p is in and its right link the one expected, and of a join if its right number
+-- has a next
 unfoldable pub grants : Node → ℕ → ℕ → ℕ → Bool
 grants p v new expected = isIn (p .status) && (linksTo (p .right) expected && (not (eqb new v) || hasNext (seqOf (p .rseq))))
 
@@ -168,7 +171,8 @@ wouldGrant p v (SetRAck number) = false
 wouldGrant p v SetRNak = false
 wouldGrant p v (SetL left number) = false
 
--- R5.6: of a join the old right link is told of v, with the next number; of a leave new is told of p, with the request's number
+-- R5.6: of a join the old right link is told of v, with the next number; of a leave new is told of
+-- p, with the request's number
 abbrev pub notice : ℕ → Node → ℕ → ℕ → Number → Message
 notice me p v new number =
     cond (eqb new v)

@@ -1,5 +1,6 @@
--- The record of a node just declared, and when a node, a message or a neighbour handed in to a single step is well formed
--- (paper 01: in shape). Refusal 6 is given exactly where it is not. Definitions only.
+-- The record of a node just declared, and when a node, a message or a neighbour handed in to a
+-- single step is well formed (paper 01: in shape). Refusal 6 is given exactly where it is not.
+-- Definitions only.
 use Prim.Native.Nat.{ℕ}
 use mathlib.Core.Bool.{Bool, _&&_}
 use lib.Dec.{ltb, eqb}

@@ -1,4 +1,5 @@
-// Leave (R5.3, R5.4): a node asks the node on its left to pass it over, or goes at once where it is alone.
+// Leave (R5.3, R5.4): a node asks the node on its left to pass it over, or goes at once where it is
+// alone.
 ghost use mathlib.Core.Path.{_≡_};
 ghost use Rattle.node.specs.Actions.{effect, leaveUnchecked, leaveOf};
 use crate::Node;

@@ -1,6 +1,7 @@
-// One node of the ring (paper 01: a bench): its record, and what it does with an order or a message (docs/RULES.md, section 5).
-// Its parts and its messages are those of the crate `parts`. Each action takes the node by value, with the node's own number,
-// and hands back the node, at most two messages and a verdict (R1.9).
+// One node of the ring (paper 01: a bench): its record, and what it does with an order or a message
+// (docs/RULES.md, section 5). Its parts and its messages are those of the crate `parts`. Each
+// action takes the node by value, with the node's own number, and hands back the node, at most two
+// messages and a verdict (R1.9).
 use parts::Link;
 use parts::Posts;
 use parts::Seq;

@@ -15,7 +15,8 @@ use refusal::Refusal;
 use sequence::Number;
 
 impl Node {
-    // What a node does with a message, by its kind, unless it is out (R5.13): the action alone, with no test of node or message.
+    // What a node does with a message, by its kind, unless it is out (R5.13): the action alone,
+    // with no test of node or message.
     pub fn act(self, me: u8, sender: u8, kind: Kind) -> Step
         ensures { λ r. ⌜ effect r ≡ actOf me self sender kind ⌝ }
     {

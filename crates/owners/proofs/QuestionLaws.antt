@@ -1,5 +1,5 @@
--- The rules of the owner, by what the arrays of a well-formed network are asked: what each refuses, in their order, before the walk. Assumes
--- nothing.
+-- The rules of the owner, by what the arrays of a well-formed network are asked: what each refuses,
+-- in their order, before the walk. Assumes nothing.
 use mathlib.Core.Path.{_≡_, sym, ap, _∙_}
 use mathlib.Core.Logic.{⊎-elim}
 use mathlib.Core.Bool.{true, false, cond}

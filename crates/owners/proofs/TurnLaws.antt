@@ -1,4 +1,5 @@
--- What the loop needs: each turn of the walk along right links is the definition's own step. Assumes nothing.
+-- What the loop needs: each turn of the walk along right links is the definition's own step.
+-- Assumes nothing.
 use mathlib.Core.Path.{_≡_, sym, ap, _∙_}
 use mathlib.Core.Bool.{Bool, true, false, cond}
 use Prim.Native.Nat.{ℕ, suc, _+_, _-_, _<_}

@@ -1,5 +1,5 @@
--- The walk in a well-formed network is the walk in its lists: each number that is met is below the count. By going down the hops left to make.
--- Assumes nothing.
+-- The walk in a well-formed network is the walk in its lists: each number that is met is below the
+-- count. By going down the hops left to make. Assumes nothing.
 use mathlib.Core.Path.{_≡_, refl, sym, ap, _∙_}
 use mathlib.Core.Bool.{true, cond}
 use Prim.Native.Nat.{ℕ, zero, suc, _<_}

@@ -1,5 +1,6 @@
--- No rules stand here: it is what the code computes on a network's arrays, for every network, where it is asked which node owns a serial. What
--- this comes to on the lists of a well-formed network is proved in `proofs/`. Definitions only.
+-- No rules stand here: it is what the code computes on a network's arrays, for every network, where
+-- it is asked which node owns a serial. What this comes to on the lists of a well-formed network is
+-- proved in `proofs/`. Definitions only.
 use Prim.Native.Nat.{ℕ, zero, suc}
 use mathlib.Core.Bool.{cond}
 use lib.Dec.{ltb}
@@ -17,7 +18,8 @@ use Rattle.network.specs.declared.Network.{Network}
 use Rattle.access.specs.Sights.{nodeIn}
 use Rattle.members.specs.Members.{memberIn}
 
--- ---- the walk to an owner: at node u, after some hops, by its right link; and with so many hops left to make
+-- ---- the walk to an owner: at node u, after some hops, by its right link; and with so many hops
+-- left to make
 abbrev pub walkAt : Network → ℕ → ℕ → ℕ → Link → (ℕ → Walk) → Walk
 walkAt n serial u hops Unlinked beyond = lost
 walkAt n serial u hops (To q) beyond = cond (within (nodeIn n u .key) (nodeIn n q .key) serial) (found u hops) (beyond q)
@@ -26,7 +28,8 @@ abbrev pub walkFrom : Network → ℕ → ℕ → ℕ → ℕ → Walk
 walkFrom n serial zero u hops = lost
 walkFrom n serial (suc left) u hops = walkAt n serial u hops (nodeIn n u .right) (λ q. walkFrom n serial left q (suc hops))
 
--- ---- the owner, by tests in the order of the rules; and as a record asks it, whose serial may be refused at its turn
+-- ---- the owner, by tests in the order of the rules; and as a record asks it, whose serial may be
+-- refused at its turn
 abbrev pub ifDeclared : Network → ℕ → Coded Reply → Coded Reply
 ifDeclared n start said = cond (ltb start (n .count)) said (no (plain 5))
 

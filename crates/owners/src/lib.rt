@@ -1,6 +1,7 @@
-// Which node owns a serial (docs/RULES.md, section 7), for every network: the walk along right links from a start that is
-// inserted, and what is refused before it. A number past an array counts from its beginning again. What this comes to on a
-// well-formed network's lists is proved in `proofs/`; whether a network is well formed is tested in a crate above.
+// Which node owns a serial (docs/RULES.md, section 7), for every network: the walk along right
+// links from a start that is inserted, and what is refused before it. A number past an array counts
+// from its beginning again. What this comes to on a well-formed network's lists is proved in
+// `proofs/`; whether a network is well formed is tested in a crate above.
 ghost use mathlib.Core.Path.{_≡_};
 ghost use mathlib.Core.Bool.{cond};
 ghost use lib.Dec.{ltb};
@@ -17,7 +18,8 @@ use protocol::Reply;
 use refusal::Refusal;
 use serial::Serial;
 
-// R7.1, R7.2: along right links from a start, to the node whose interval holds the serial; each hop reads one node.
+// R7.1, R7.2: along right links from a start, to the node whose interval holds the serial; each hop
+// reads one node.
 fn walk(network: Network, start: u8, serial: u32) -> Answer
     ensures { λ r. ⌜ answered r ≡ walked (walkFrom network serial (network .count) start 0) ⌝ }
 {

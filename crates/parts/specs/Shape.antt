@@ -1,5 +1,5 @@
--- When a link, the links of a node, or a message are well formed among the first `count` nodes (paper 01: in shape).
--- Definitions only.
+-- When a link, the links of a node, or a message are well formed among the first `count` nodes
+-- (paper 01: in shape). Definitions only.
 use Prim.Native.Nat.{ℕ}
 use mathlib.Core.Bool.{Bool, true, not, _&&_, _||_}
 use lib.Dec.{ltb}
@@ -17,7 +17,8 @@ abbrev pub linkFits : ℕ → Link → Bool
 linkFits count Unlinked = true
 linkFits count (To n) = ltb n count
 
--- R2.5, R2.6: the links of a node are declared, and there unless it is out; its right number is there while it is in or del
+-- R2.5, R2.6: the links of a node are declared, and there unless it is out; its right number is
+-- there while it is in or del
 abbrev pub linksFit : ℕ → Status → Link → Link → Seq → Bool
 linksFit count status left right rseq =
     (linkFits count left && linkFits count right)

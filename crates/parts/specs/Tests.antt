@@ -1,5 +1,5 @@
--- Tests of the parts of a node and of a message: its status, a link, a number that a node may lack, a kind. Each goes by cases, once.
--- Definitions only.
+-- Tests of the parts of a node and of a message: its status, a link, a number that a node may lack,
+-- a kind. Each goes by cases, once. Definitions only.
 use Prim.Native.Nat.{ℕ}
 use mathlib.Core.Bool.{Bool, true, false, _||_}
 use lib.Dec.{eqb}

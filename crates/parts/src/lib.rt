@@ -1,5 +1,6 @@
-// What a node and a message are put together from (R1.3, R1.6): a status, a link, a right number, a kind; the message itself;
-// and what a step posts. Their tests are here too, among them whether a link or a message is well formed among so many nodes.
+// What a node and a message are put together from (R1.3, R1.6): a status, a link, a right number, a
+// kind; the message itself; and what a step posts. Their tests are here too, among them whether a
+// link or a message is well formed among so many nodes.
 use sequence::Number;
 
 mod shape;

@@ -1,5 +1,5 @@
-// Tests of the parts of a node and of a message, what a link or a number that a node may lack stands for, and how many messages a step posts.
-// Each goes by cases here, and nowhere else.
+// Tests of the parts of a node and of a message, what a link or a number that a node may lack
+// stands for, and how many messages a step posts. Each goes by cases here, and nowhere else.
 ghost use mathlib.Core.Path.{_≡_};
 ghost use lib.ListN.{length};
 ghost use Rattle.parts.specs.Tests.{isOut, isIn, isInOrDel, linked, linksTo, target, numbered, seqOf, isAck, isNak, isNotice};

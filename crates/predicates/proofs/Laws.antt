@@ -1,5 +1,5 @@
--- What it says that a test put together from others is true. A test comes as an equation, `b ≡ true`, or as a type, `T b`.
--- Assumes nothing.
+-- What it says that a test put together from others is true. A test comes as an equation,
+-- `b ≡ true`, or as a type, `T b`. Assumes nothing.
 use mathlib.Core.Path.{_≡_, refl, sym, _∙_}
 use mathlib.Core.Logic.{_⊎_, inl, inr, ⊎-elim, _↔_}
 use mathlib.Core.Bool.{Bool, true, false, _&&_, _||_, cond, false≢true}

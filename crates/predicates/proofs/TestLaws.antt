@@ -1,5 +1,5 @@
--- What the tests over a list, and over the numbers below a bound, say of each member, and what they give for a list
--- put together from parts: by going through the list. Assumes nothing.
+-- What the tests over a list, and over the numbers below a bound, say of each member, and what they
+-- give for a list put together from parts: by going through the list. Assumes nothing.
 use mathlib.Core.Path.{_≡_, refl, sym, ap, _∙_}
 use mathlib.Core.Logic.{_⊎_, inl, inr, ⊎-elim}
 use mathlib.Core.Bool.{Bool, true, false, _&&_, _||_, and-assoc, or-assoc, and-true, and-false, or-false}

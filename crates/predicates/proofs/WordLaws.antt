@@ -1,5 +1,6 @@
--- The count and the word of the numbers below a bound that pass a test: the word has one bit for each number, as many set as the count
--- says, and bit u says whether u passes. By going up to the bound, one bit on top of the others each time. Assumes nothing.
+-- The count and the word of the numbers below a bound that pass a test: the word has one bit for
+-- each number, as many set as the count says, and bit u says whether u passes. By going up to the
+-- bound, one bit on top of the others each time. Assumes nothing.
 use mathlib.Core.Path.{_≡_, refl, sym, ap, ap₂, _∙_}
 use mathlib.Core.Bool.{Bool, true, false}
 use Prim.Native.Nat.{ℕ, zero, suc, _+_, _-_, _/_, _%_, _^_, _≤_, _<_}

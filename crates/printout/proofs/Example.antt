@@ -1,4 +1,5 @@
--- The printout of paper 01, byte by byte, from what is said of its records. It computes. Assumes nothing.
+-- The printout of paper 01, byte by byte, from what is said of its records. It computes. Assumes
+-- nothing.
 use Prim.Native.Nat.{ℕ, suc}
 use mathlib.Core.Path.{_≡_, refl}
 use mathlib.Core.List.{List, [], _∷_, _++_}

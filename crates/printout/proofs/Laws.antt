@@ -1,5 +1,5 @@
--- Laws of the lines of the printout: how long they are, how they are put together from their pieces, and what a text holds after a line was
--- printed. Assumes nothing.
+-- Laws of the lines of the printout: how long they are, how they are put together from their
+-- pieces, and what a text holds after a line was printed. Assumes nothing.
 use Prim.Native.Nat.{ℕ, _+_, _^_, _≤_, _<_}
 use mathlib.Core.Path.{_≡_, refl, sym, ap, _∙_}
 use mathlib.Core.Bool.{Bool, true, false}
@@ -63,7 +63,8 @@ unfolding lastLine
 short-last-line waiting posted small large =
     omega (arith, short-pair (ascii "end ") waiting (ascii " posted ") posted refl (omega arith) large)
 
--- ---- whether forty bytes find room, as the code tests it; and numbers of eight bits among wider ones
+-- ---- whether forty bytes find room, as the code tests it; and numbers of eight bits among wider
+-- ones
 pub full : {size end : ℕ} {r : Bool} → r ≡ ltb size end → r ≡ true → size < end
 full tested so = ltb-true _ _ (sym tested ∙ so)
 

@@ -1,4 +1,5 @@
--- The printout, line by line (R9.7, R9.8): what is answered to a record, in the words of the printout. Definitions only.
+-- The printout, line by line (R9.7, R9.8): what is answered to a record, in the words of the
+-- printout. Definitions only.
 use Prim.Native.Nat.{ℕ}
 use mathlib.Core.List.{List, [], _++_}
 use Rattle.text.specs.Text.{ascii, decimal}
@@ -13,7 +14,8 @@ use Rattle.protocol.specs.declared.Reply.the-variants.{Declared, Stepped, Owner
 abbrev pub pair : List ℕ → ℕ → List ℕ → ℕ → List ℕ
 pair word n word' n' = word ++ decimal n ++ word' ++ decimal n'
 
--- R9.7: the words of what is done; who is inserted is asked by no record of a script, and has no words
+-- R9.7: the words of what is done; who is inserted is asked by no record of a script, and has no
+-- words
 abbrev pub replyWords : Reply → List ℕ
 replyWords (Declared number key) = pair (ascii "bench ") number (ascii " key ") key
 replyWords (Stepped o) = outcomeWord o

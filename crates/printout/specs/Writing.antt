@@ -15,7 +15,8 @@ use Rattle.protocol.specs.declared.Reply.{Reply}
 use Rattle.printout.specs.Lines.{words}
 
 -- ---- the items that a line is put together from, a word and a number each
--- from `text` to `after` a word was put at place `at`, and a number after it; r is the place after both
+-- from `text` to `after` a word was put at place `at`, and a number after it; r is the place after
+-- both
 pub record Item (text : List ℕ) (at : ℕ) (word : List ℕ) (n : ℕ) (after : List ℕ) (r : ℕ) : Type 0 where
   pub between : List ℕ
   pub place : ℕ
@@ -34,7 +35,8 @@ pub record LastItem (text : List ℕ) (at : ℕ) (word : List ℕ) (n : ℕ) (af
 abbrev pub hasRoom : List ℕ → ℕ → Bool
 hasRoom text at = leb (at + 40) (length text)
 
--- from `text` to `after` a line was written from place `at` on, and r is the place after it; where forty bytes find no room all is as it was
+-- from `text` to `after` a line was written from place `at` on, and r is the place after it; where
+-- forty bytes find no room all is as it was
 pub record Printed (text : List ℕ) (at : ℕ) (line after : List ℕ) (r : ℕ) : Type 0 where
   pub place : r ≡ cond (hasRoom text at) (at + length line) at
   pub written : after ≡ cond (hasRoom text at) (paste text at line (length line)) text
@@ -44,7 +46,8 @@ pub record Printed (text : List ℕ) (at : ℕ) (line after : List ℕ) (r : ℕ
 abbrev pub ending : Coded Reply → List ℕ
 ending s = ascii " " ++ words s ++ ascii "\n"
 
--- from `text` to `after` that was put at place `at`, and r is the place after it; an ordinal leaves room for it in forty bytes
+-- from `text` to `after` that was put at place `at`, and r is the place after it; an ordinal leaves
+-- room for it in forty bytes
 pub record Ended (text : List ℕ) (at : ℕ) (s : Coded Reply) (after : List ℕ) (r : ℕ) : Type 0 where
   pub put : Put text at (ending s) after r
   pub short : length (ending s) ≤ 30

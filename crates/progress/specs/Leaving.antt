@@ -1,5 +1,6 @@
--- No rules stand here: it is what the code leaves when a record is done with, for every progress, report and text. That this
--- is a step of a run, as `course` has it, is proved in the crate `engine`. Definitions only.
+-- No rules stand here: it is what the code leaves when a record is done with, for every progress,
+-- report and text. That this is a step of a run, as `course` has it, is proved in the crate
+-- `engine`. Definitions only.
 use Prim.Native.Nat.{ℕ, _+_, _%_, _^_}
 use mathlib.Core.Path.{_≡_}
 use mathlib.Core.List.{List}
@@ -27,7 +28,8 @@ abbrev pub postedAfter : ℕ → Coded Reply → ℕ → ℕ
 postedAfter all (done reply) more = (all + more) % 2 ^ 32
 postedAfter all (no reason) more = all
 
--- from the progress p and the text to the progress r and the buffer: the cursor, the ordinal, the posts, the line
+-- from the progress p and the text to the progress r and the buffer: the cursor, the ordinal, the
+-- posts, the line
 abbrev pub Leaves : (p : Progress) (after : ℕ) → Report → (text : List ℕ) (r : Progress) (buffer : List ℕ) → Type 0
 Leaves p after report text r buffer =
     (r .at ≡ after)
@@ -36,7 +38,8 @@ Leaves p after report text r buffer =
     × Printed text (p .used) (lineOf (r .ordinal) (answered (report .answer))) buffer (r .used)
     × (1_048_576 ≡ length text)
 
--- from the text to the buffer: the line that refuses a script as a whole, and the last line after it
+-- from the text to the buffer: the line that refuses a script as a whole, and the last line after
+-- it
 pub record Refuses (text : List ℕ) (start : ℕ) (buffer : List ℕ) (r : ℕ) : Type 0 where
   pub between : List ℕ
   pub used : ℕ

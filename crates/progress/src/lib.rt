@@ -1,5 +1,6 @@
-// How far the run of a script has come, beside its network, and how it leaves a record: the line is printed, and the cursor is past it. Counts wrap, and
-// where forty bytes find no room no line is printed, so that nothing is asked of the caller; a run comes to neither.
+// How far the run of a script has come, beside its network, and how it leaves a record: the line is
+// printed, and the cursor is past it. Counts wrap, and where forty bytes find no room no line is
+// printed, so that nothing is asked of the caller; a run comes to neither.
 ghost use mathlib.Core.Path.{_≡_};
 ghost use Rattle.progress.specs.Leaving.{refusalIn, Leaves, Refuses};
 use protocol::Answer;
@@ -24,8 +25,8 @@ fn refusal_in(answer: Answer) -> Refusal
     }
 }
 
-// R9.9: a record is left with its line printed and the cursor past it; at once where it is refused, since it then has posted
-// nothing.
+// R9.9: a record is left with its line printed and the cursor past it; at once where it is refused,
+// since it then has posted nothing.
 pub fn leave_record(text: &mut [u8; 1048576], p: Progress, after: usize, report: Report) -> Progress
     ensures { λ r. ⌜ Leaves p after report (now (text .entry)) r (now (text .exit)) ⌝ }
 {

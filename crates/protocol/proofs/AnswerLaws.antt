@@ -1,5 +1,5 @@
--- What an answer says fixes the answer: two that say the same are the same. So an equation of what is said leaves nothing of an answer
--- open. Assumes nothing.
+-- What an answer says fixes the answer: two that say the same are the same. So an equation of what
+-- is said leaves nothing of an answer open. Assumes nothing.
 use mathlib.Core.Path.{_≡_, ap}
 use Rattle.refusal.proofs.Laws.{reason-injective}
 use Rattle.protocol.specs.declared.Answer.{Answer}

@@ -1,5 +1,5 @@
--- The invariant holds after the delivery of an answer: the node that waited for it is then in or out, and is inserted exactly if it was.
--- Assumes nothing.
+-- The invariant holds after the delivery of an answer: the node that waited for it is then in or
+-- out, and is inserted exactly if it was. Assumes nothing.
 use mathlib.Core.Path.{_≡_, refl, sym, ap, _∙_}
 use mathlib.Core.Logic.{⊎-elim, _≢_}
 use mathlib.Core.Bool.{Bool, true, false}

@@ -1,5 +1,6 @@
--- Every call on every network is one of the cases of `Change`. Where a rule refuses, it is the refusal; else no rule's condition holds,
--- and the cleared rules and the network's well-formedness give the facts of the case, and the node's step its result. Assumes nothing.
+-- Every call on every network is one of the cases of `Change`. Where a rule refuses, it is the
+-- refusal; else no rule's condition holds, and the cleared rules and the network's well-formedness
+-- give the facts of the case, and the node's step its result. Assumes nothing.
 use mathlib.Core.Path.{_≡_, refl, ap}
 use mathlib.Core.Logic.{⊎-elim, _≢_}
 use mathlib.Core.Bool.{true, false, not, _&&_}

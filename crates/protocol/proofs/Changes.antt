@@ -1,6 +1,6 @@
--- What a call on a well-formed network can do, one case for each row of the rules, with the facts that its tests have shown. The cases
--- are read off the definitions once, in `Cases`; whatever is proved of every call is then proved case by case from these facts.
--- Assumes nothing.
+-- What a call on a well-formed network can do, one case for each row of the rules, with the facts
+-- that its tests have shown. The cases are read off the definitions once, in `Cases`; whatever is
+-- proved of every call is then proved case by case from these facts. Assumes nothing.
 use mathlib.Core.Path.{_≡_}
 use mathlib.Core.Logic.{_≢_}
 use mathlib.Core.Bool.{true, false}

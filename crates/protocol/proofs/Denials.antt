@@ -1,5 +1,6 @@
--- The invariant holds after the delivery of a request that is denied, and of any message to a node that is out: no node changes, and of
--- what waited nothing goes that the invariant speaks of. Assumes nothing.
+-- The invariant holds after the delivery of a request that is denied, and of any message to a node
+-- that is out: no node changes, and of what waited nothing goes that the invariant speaks of.
+-- Assumes nothing.
 use mathlib.Core.Path.{_≡_, refl, sym, ap, _∙_}
 use mathlib.Core.Logic.{⊎-elim, _≢_}
 use mathlib.Core.Bool.{Bool, true, false}
@@ -22,7 +23,8 @@ use Rattle.protocol.proofs.Fields.{statusOf, keyOf, leftOf, rightOf, ls
 use Rattle.protocol.proofs.Invariant.{isMember, Invariant}
 use Rattle.protocol.proofs.Frames.{member-same, member-not-out, request-same, keeps-same, left-same, same-order}
 
--- no node changes; but for denials nothing comes, no acknowledgement goes, and no notice to a node that is not out
+-- no node changes; but for denials nothing comes, no acknowledgement goes, and no notice to a node
+-- that is not out
 pub unmoved : {N N′ : ℕ → Node} {M M′ : List Message} {told joins : ℕ → Bool} → Invariant N M told joins → ((u : ℕ) → N′ u ≡ N u)
     → ((u : ℕ) → any (isAckTo u) M′ ≡ any (isAckTo u) M) → ((x : Message) → isNak (x .kind) ≡ false → x ∈ M′ → x ∈ M)
     → ((w u a : ℕ) (n : Number) → N u .status ≢ Out → setL w u a n ∈ M → setL w u a n ∈ M′) → Invariant N′ M′ told joins

@@ -1,6 +1,7 @@
--- None of a drain's deliveries is refused, it goes on until nothing waits or the budget is spent, and it leads where these deliveries
--- lead as calls. While a message waits in a well-formed network some delivery is not refused, so the search for the lowest place finds
--- one; and each delivery leaves the network well formed. Assumes nothing.
+-- None of a drain's deliveries is refused, it goes on until nothing waits or the budget is spent,
+-- and it leads where these deliveries lead as calls. While a message waits in a well-formed network
+-- some delivery is not refused, so the search for the lowest place finds one; and each delivery
+-- leaves the network well formed. Assumes nothing.
 use mathlib.Core.Path.{_≡_, refl, sym, ap, _∙_}
 use mathlib.Core.Logic.{⊎-elim, _≢_}
 use mathlib.Core.Bool.{Bool, true, false, and-false}

@@ -1,5 +1,5 @@
--- The events of the lists of calls in `specs/Example.antt`, and the order that they make: each kind of event comes up. Each line computes.
--- Assumes nothing.
+-- The events of the lists of calls in `specs/Example.antt`, and the order that they make: each kind
+-- of event comes up. Each line computes. Assumes nothing.
 use mathlib.Core.Path.{_≡_, refl}
 use mathlib.Core.List.{List, [], _∷_}
 use Prim.Native.Nat.{ℕ}

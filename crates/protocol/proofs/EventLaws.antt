@@ -1,5 +1,6 @@
--- What each event does to the ring. Who is inserted is read off what is told before and after; keys and links off the case of the call that
--- the event is; and the order is the one ascending list of those inserted after, which the invariant says is a ring. Assumes nothing.
+-- What each event does to the ring. Who is inserted is read off what is told before and after; keys
+-- and links off the case of the call that the event is; and the order is the one ascending list of
+-- those inserted after, which the invariant says is a ring. Assumes nothing.
 use mathlib.Core.Path.{_≡_, refl, sym, ap, _∙_}
 use mathlib.Core.Logic.{_⊎_, inl, inr, ⊎-elim, _↔_, _≢_}
 use mathlib.Core.Bool.{Bool, true, false}

@@ -1,6 +1,7 @@
--- The definitions run on paper 01's example script: each call is answered as it must be, and afterwards both nodes are inserted,
--- told so and by the definition, and link to each other both ways, with nothing waiting. A longer list has granted leaves, refusal 25 and a
--- second join. So the claim is not about networks in which nothing happens. Each line computes. Assumes nothing.
+-- The definitions run on paper 01's example script: each call is answered as it must be, and
+-- afterwards both nodes are inserted, told so and by the definition, and link to each other both
+-- ways, with nothing waiting. A longer list has granted leaves, refusal 25 and a second join. So
+-- the claim is not about networks in which nothing happens. Each line computes. Assumes nothing.
 use mathlib.Core.Path.{_≡_, refl}
 use mathlib.Core.Bool.{true, false}
 use mathlib.Core.List.{[], _∷_}

@@ -1,4 +1,5 @@
--- Well-formedness as facts that proofs can use, and that these facts say what the test says. Assumes nothing.
+-- Well-formedness as facts that proofs can use, and that these facts say what the test says.
+-- Assumes nothing.
 use mathlib.Core.Path.{_≡_, ap}
 use mathlib.Core.Logic.{_≢_}
 use mathlib.Core.Bool.{true, not, _&&_}

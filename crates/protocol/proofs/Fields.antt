@@ -1,4 +1,5 @@
--- The fields of a node and of a message as functions, so that an equation of nodes gives one of their fields. Definitions only.
+-- The fields of a node and of a message as functions, so that an equation of nodes gives one of
+-- their fields. Definitions only.
 use Prim.Native.Nat.{ℕ}
 use Rattle.parts.specs.declared.Status.{Status}
 use Rattle.parts.specs.declared.Link.{Link}

@@ -1,5 +1,5 @@
--- What a step leaves as it was. A step changes one node and the queue; most of the invariant then holds because the parts that it
--- speaks of are the same before and after. Assumes nothing.
+-- What a step leaves as it was. A step changes one node and the queue; most of the invariant then
+-- holds because the parts that it speaks of are the same before and after. Assumes nothing.
 use mathlib.Core.Path.{_≡_, sym, ap, _∙_}
 use mathlib.Core.Logic.{_≢_}
 use mathlib.Core.Bool.{Bool}

@@ -1,6 +1,7 @@
--- The invariant holds after the delivery of a request that is granted. A joiner is put into the ring between the granting node and its
--- right link; a leaver is taken out of it. Either way one link into one node q is new, the number kept for it is the next one, and the
--- notice posted to q says so. Assumes nothing.
+-- The invariant holds after the delivery of a request that is granted. A joiner is put into the
+-- ring between the granting node and its right link; a leaver is taken out of it. Either way one
+-- link into one node q is new, the number kept for it is the next one, and the notice posted to q
+-- says so. Assumes nothing.
 use mathlib.Core.Path.{_≡_, refl, sym, ap, _∙_}
 use mathlib.Core.Logic.{_⊎_, inl, inr, ⊎-elim, _≢_}
 use mathlib.Core.Bool.{Bool, true, false}
@@ -32,7 +33,8 @@ use Rattle.protocol.proofs.Fields.{statusOf, keyOf, leftOf, rightOf, ls
 use Rattle.protocol.proofs.Invariant.{isMember, Member, ByJoiner, ByLeaver, Request, Exchanges, Keeps, stored, coming, LeftLink, Invariant}
 use Rattle.protocol.proofs.Frames.{settled-in, ins-not-del, member-same, request-same, keeps-same, left-same}
 
--- node p has granted v's request: a notice (a, k) to q and the answer l to v have come to those that wait
+-- node p has granted v's request: a notice (a, k) to q and the answer l to v have come to those
+-- that wait
 pub record Granted (rest M′ : List Message) (p v q a : ℕ) (k l : Number) : Type 0 where
   pub still : (x : Message) → x ∈ rest → x ∈ M′
   pub notice : setL p q a k ∈ M′
@@ -60,7 +62,8 @@ granted rest p v q a k l = record {
     same-ack w u n e = let f : SetRAck n ≡ SetRAck l = ap kindOf e in (ap toOf e, (cc))
 
 -- ---- what both grants have in common
--- node p, which is in, has granted v's request and is relinked; q is the node whose left link is to change
+-- node p, which is in, has granted v's request and is relinked; q is the node whose left link is to
+-- change
 pub record Grant (N N′ : ℕ → Node) (M rest M′ : List Message) (told joins : ℕ → Bool) (v p new e : ℕ) (n : Number) (q a : ℕ) (k l : Number) : Type 0 where
   pub limited : Limited N M
   pub inv : Invariant N M told joins
@@ -157,7 +160,8 @@ module _ {N N′ : ℕ → Node} {M rest M′ : List Message} {told joins : ℕ 
   granting-keeps R (stored f h) = let same : Is n ≡ Is R = sym (ap rseqOf (c .at .self)) ∙ h in cc
   granting-keeps R (coming h x j) = absurd (settled-in .0 (sym (status p ∙ c .is-in) ∙ h))
 
-  -- a member x that is neither p nor v links where it did; were that q, then x would be the one that linked there
+  -- a member x that is neither p nor v links where it did; were that q, then x would be the one
+  -- that linked there
   link-kept : (x u R o : ℕ) → x ≢ p → x ≢ v → Member N′ M′ x → N′ x .right ≡ To u → Keeps N′ M′ x R → o ∈ c .inv .order .order → N o .right ≡ To q → x ≢ o → LeftLink N′ M′ x u R
   link-kept x u R o dp dv m r j i out d =
       let member : Member N M x = sym (same-member x dv) ∙ m in

@@ -1,6 +1,8 @@
--- What holds of the nodes and the waiting messages after every list of calls: the inserted nodes form a ring in the order of their
--- keys; a waiting request says what its sender's links and numbers say; and each inserted node's left link is either right, or a notice
--- that mends it waits. It is said of the nodes as a function N of their numbers and of the list M of waiting messages. Assumes nothing.
+-- What holds of the nodes and the waiting messages after every list of calls: the inserted nodes
+-- form a ring in the order of their keys; a waiting request says what its sender's links and
+-- numbers say; and each inserted node's left link is either right, or a notice that mends it waits.
+-- It is said of the nodes as a function N of their numbers and of the list M of waiting messages.
+-- Assumes nothing.
 use mathlib.Core.Path.{_≡_}
 use mathlib.Core.Logic.{_↔_, _≢_}
 use mathlib.Core.Bool.{Bool, true, false}
@@ -55,7 +57,8 @@ pub record Exchanges (N : ℕ → Node) (M : List Message) (joins : ℕ → Bool
   pub quiet : (w u a : ℕ) (n : Number) → N u .status ≡ Ins → isMember N M u ≡ false → ¬ (setL w u a n ∈ M)
 
 -- ---- left links
--- the number that v keeps for its right link: its right number, or, while it is ins, the one that the answer to it carries
+-- the number that v keeps for its right link: its right number, or, while it is ins, the one that
+-- the answer to it carries
 pub data Keeps (N : ℕ → Node) (M : List Message) (v : ℕ) (R : Number) : Type 0 where
   stored : N v .status ≢ Ins → N v .rseq ≡ Is R → Keeps N M v R
   coming : N v .status ≡ Ins → (w : ℕ) → setRAck w v R ∈ M → Keeps N M v R

@@ -1,6 +1,7 @@
--- Each call keeps a network well formed. An order finds a node with no exchanges, which it may give one; a delivered request goes and an
--- answer to the same node comes; a delivered answer goes, and its node has no exchanges left. Each case of `Changes` shows its part, and `Moves`
--- the rest. Assumes nothing.
+-- Each call keeps a network well formed. An order finds a node with no exchanges, which it may give
+-- one; a delivered request goes and an answer to the same node comes; a delivered answer goes, and
+-- its node has no exchanges left. Each case of `Changes` shows its part, and `Moves` the rest.
+-- Assumes nothing.
 use mathlib.Core.Path.{_≡_, refl, sym, ap}
 use mathlib.Core.Logic.{_≢_}
 use mathlib.Core.Bool.{true, not, or-false}
@@ -31,7 +32,8 @@ use Rattle.protocol.proofs.Changes.{Act, drops, lets-in, lets-go, denie
 use Rattle.protocol.proofs.Changes.{Accepted, declares, creates, asks, goes-alone, leaves, delivers, Change, refuses, accepts}
 use Rattle.protocol.proofs.Moves.{AllFit, with-posts, Moves, moved-kept, declare-kept}
 
--- ---- whose exchange a message is: a request is its sender's; that an answer is the addressee's computes
+-- ---- whose exchange a message is: a request is its sender's; that an answer is the addressee's
+-- computes
 request-of : (u v p new e n : ℕ) → bit (isExchangeOf u (setR v p new e n)) ≡ bit (eqb v u)
 request-of u v p new e n = ap bit (or-false (eqb v u))
 

@@ -1,6 +1,8 @@
--- Deliveries come to an end, and until then one is always to be had. A delivery that is not refused lowers the load: a request counts
--- three and at most two messages come of it, any other message counts one and none comes of it. And where 64 messages wait some are not
--- requests, since each of at most 32 nodes has at most one waiting; the delivery of such a one is not refused. Assumes nothing.
+-- Deliveries come to an end, and until then one is always to be had. A delivery that is not refused
+-- lowers the load: a request counts three and at most two messages come of it, any other message
+-- counts one and none comes of it. And where 64 messages wait some are not requests, since each of
+-- at most 32 nodes has at most one waiting; the delivery of such a one is not refused. Assumes
+-- nothing.
 use mathlib.Core.Path.{_≡_, refl, sym, ap}
 use mathlib.Core.Logic.{⊎-elim}
 use mathlib.Core.Bool.{Bool, true, false, not, _&&_, _||_}

@@ -1,6 +1,7 @@
--- The word that says who is inserted: bit u of it says whether node u is, past the last node there are only zeros, and its ones are as many
--- as the size says. Each is a law of words, read at the inserted nodes; in a well-formed network the nodes are so few that 32 bits hold the
--- word. Assumes nothing.
+-- The word that says who is inserted: bit u of it says whether node u is, past the last node there
+-- are only zeros, and its ones are as many as the size says. Each is a law of words, read at the
+-- inserted nodes; in a well-formed network the nodes are so few that 32 bits hold the word. Assumes
+-- nothing.
 use mathlib.Core.Path.{_≡_}
 use Prim.Native.Nat.{ℕ, _/_, _%_, _^_, _≤_, _<_}
 use native.Mathlib.Nat.{lt-of-lt-of-le}

@@ -1,6 +1,7 @@
--- What leaves a network well formed: one node is set anew, fits and keeps its key, while the messages that then wait fit and no node has
--- more exchanges than its status allows; or one node is declared, and has no exchanges, since no message concerns it. Each is shown once
--- here, for the calls in `Kept`. Assumes nothing.
+-- What leaves a network well formed: one node is set anew, fits and keeps its key, while the
+-- messages that then wait fit and no node has more exchanges than its status allows; or one node is
+-- declared, and has no exchanges, since no message concerns it. Each is shown once here, for the
+-- calls in `Kept`. Assumes nothing.
 use mathlib.Core.Path.{_≡_, refl, sym, ap, _∙_}
 use mathlib.Core.Logic.{⊎-elim, _≢_}
 use mathlib.Core.Bool.{true, false, and-false}

@@ -1,5 +1,5 @@
--- The nodes as a function of their numbers: with one of them set anew, and with one declared, all others stand as they were.
--- Assumes nothing.
+-- The nodes as a function of their numbers: with one of them set anew, and with one declared, all
+-- others stand as they were. Assumes nothing.
 use mathlib.Core.Path.{_≡_, ap, sym, _∙_}
 use mathlib.Core.Logic.{_≢_}
 use mathlib.Core.List.{List, [], _∷_}

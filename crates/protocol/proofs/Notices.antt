@@ -1,6 +1,6 @@
--- The invariant holds after the delivery of a SetL. If it is taken, its number is the one that the predecessor keeps, and then it names
--- the predecessor, or a lower one, and then the notice with that number still waits. If it is old, it was not that notice.
--- Assumes nothing.
+-- The invariant holds after the delivery of a SetL. If it is taken, its number is the one that the
+-- predecessor keeps, and then it names the predecessor, or a lower one, and then the notice with
+-- that number still waits. If it is old, it was not that notice. Assumes nothing.
 use mathlib.Core.Path.{_≡_, refl, sym, ap, _∙_}
 use mathlib.Core.Logic.{⊎-elim, _≢_}
 use mathlib.Core.Bool.{Bool, true, false}

@@ -1,5 +1,6 @@
--- No list of calls leads to a number above the last one: each number that a call stores or posts is one that was there, the first, the
--- capped next, or the next of one that has a next; the last by refusal 27 and by what a join is granted on. Assumes nothing.
+-- No list of calls leads to a number above the last one: each number that a call stores or posts is
+-- one that was there, the first, the capped next, or the next of one that has a next; the last by
+-- refusal 27 and by what a join is granted on. Assumes nothing.
 use mathlib.Core.Path.{_≡_, refl, ap, _∙_}
 use mathlib.Core.Logic.{⊎-elim}
 use mathlib.Core.Bool.{true, _&&_}

@@ -1,5 +1,6 @@
--- The invariant holds after a declaration, and after a join or a leave that posts a request: whoever was inserted still is, and the
--- request says what its sender's links and numbers say. Assumes nothing.
+-- The invariant holds after a declaration, and after a join or a leave that posts a request:
+-- whoever was inserted still is, and the request says what its sender's links and numbers say.
+-- Assumes nothing.
 use mathlib.Core.Path.{_≡_, refl, sym, ap, _∙_}
 use mathlib.Core.Logic.{⊎-elim, _≢_}
 use mathlib.Core.Bool.{Bool, true, false}

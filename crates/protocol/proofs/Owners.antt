@@ -1,6 +1,7 @@
--- The owner of a serial is found from every inserted node, and refusal 31 is never given on a network that a list of calls makes. The
--- search follows the walk along right links; the ring has one owner, the walk meets it in fewer moves than there are members, and the
--- members are no more than the nodes, which are the hops allowed. Assumes nothing.
+-- The owner of a serial is found from every inserted node, and refusal 31 is never given on a
+-- network that a list of calls makes. The search follows the walk along right links; the ring has
+-- one owner, the walk meets it in fewer moves than there are members, and the members are no more
+-- than the nodes, which are the hops allowed. Assumes nothing.
 use mathlib.Core.Path.{_≡_, refl, sym, ap, _∙_, subst}
 use mathlib.Core.Logic.{_↔_, _≢_}
 use mathlib.Core.Bool.{true, false}
@@ -39,7 +40,8 @@ use Rattle.protocol.proofs.Frames.{member-not-out}
 use Rattle.protocol.proofs.Theorem.{good, listed-inserted}
 
 -- ---- the search follows the walk
--- asked at u, with some hops made, the search says m; and the hops that it added are moves from u to m
+-- asked at u, with some hops made, the search says m; and the hops that it added are moves from u
+-- to m
 record Finds (s : State) (m u hops : ℕ) (walk : Walk) : Type 0 where
   added : ℕ
   reached : after (rightAt s) u added ≡ m

@@ -1,5 +1,6 @@
--- What calls post: each two messages at most, and none where it is refused, which also leaves the network as it was; they stand at the end of
--- the queue; and the posts of deliveries one after the other. Assumes nothing.
+-- What calls post: each two messages at most, and none where it is refused, which also leaves the
+-- network as it was; they stand at the end of the queue; and the posts of deliveries one after the
+-- other. Assumes nothing.
 use mathlib.Core.Path.{_≡_, refl, sym}
 use mathlib.Core.Bool.{true, false, not}
 use mathlib.Core.List.{List, [], _∷_, _++_, map, append-nil}

@@ -1,5 +1,6 @@
--- Refusal 6 is given exactly where the network is not well formed: a node's own rule 6, which a step carries, never refuses in a
--- well-formed network. A call never says 31. And whatever is not refused is accepted. Assumes nothing.
+-- Refusal 6 is given exactly where the network is not well formed: a node's own rule 6, which a
+-- step carries, never refuses in a well-formed network. A call never says 31. And whatever is not
+-- refused is accepted. Assumes nothing.
 use mathlib.Core.Path.{_≡_, refl, ap}
 use mathlib.Core.Logic.{⊎-elim, _↔_}
 use mathlib.Core.Bool.{true, false, not, _&&_}

@@ -1,4 +1,5 @@
--- The invariant holds where a ring of one node begins, by a creation, and where it ends, by that node's going out alone. Assumes nothing.
+-- The invariant holds where a ring of one node begins, by a creation, and where it ends, by that
+-- node's going out alone. Assumes nothing.
 use mathlib.Core.Path.{_≡_, refl, sym, ap, _∙_}
 use mathlib.Core.Logic.{_≢_}
 use mathlib.Core.Bool.{Bool, true, false}

@@ -1,5 +1,6 @@
--- Each call keeps the invariant: what a call does, case by case of `Changes`, is handed to the lemma about that kind of step, with the
--- state's lists read as the function of nodes that the invariant speaks of. Assumes nothing.
+-- Each call keeps the invariant: what a call does, case by case of `Changes`, is handed to the
+-- lemma about that kind of step, with the state's lists read as the function of nodes that the
+-- invariant speaks of. Assumes nothing.
 use mathlib.Core.Path.{_≡_, refl, ap}
 use mathlib.Core.Logic.{_⊎_, inl, inr, ⊎-elim, _↔_, _≢_}
 use mathlib.Core.Bool.{Bool, true, false, cond}

@@ -1,5 +1,5 @@
--- After every list of calls the network is well formed and the invariant holds: it holds of the empty network, and each call keeps it.
--- The claim over lists is read off it. Assumes nothing.
+-- After every list of calls the network is well formed and the invariant holds: it holds of the
+-- empty network, and each call keeps it. The claim over lists is read off it. Assumes nothing.
 use mathlib.Core.Path.{_≡_, refl, sym, ap, _∙_}
 use mathlib.Core.Logic.{_↔_, _≢_}
 use mathlib.Core.Bool.{Bool, true, false}

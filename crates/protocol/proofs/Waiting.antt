@@ -1,5 +1,6 @@
--- What waits: a message taken from the others, the members of a queue with posts, and a node's exchanges. A node has at most one exchange,
--- so whoever sees one knows that there is no other. Assumes nothing.
+-- What waits: a message taken from the others, the members of a queue with posts, and a node's
+-- exchanges. A node has at most one exchange, so whoever sees one knows that there is no other.
+-- Assumes nothing.
 use mathlib.Core.Path.{_≡_, refl, sym, ap, subst, _∙_}
 use mathlib.Core.Logic.{_⊎_, inl, inr, ⊎-elim, _≢_}
 use mathlib.Core.Bool.{Bool, true, false}

@@ -1,5 +1,5 @@
--- R11.3, what an answer of the code says: its reply, or the reason of its refusal. Every contract that answers is read
--- through `answered` and nothing else. Definitions only.
+-- R11.3, what an answer of the code says: its reply, or the reason of its refusal. Every contract
+-- that answers is read through `answered` and nothing else. Definitions only.
 use mathlib.Core.Bool.{Bool, true, false}
 use Rattle.refusal.specs.Code.{reason}
 use Rattle.refusal.specs.Rules.{Coded, done, no}

@@ -1,6 +1,7 @@
--- The calls on a network (docs/RULES.md, section 6): declare, create, join, leave, deliver. Each has its refusals in their
--- order, as a list of rules, and its effect, which is that of one node's step: the node's rules are those of the crate
--- `node`, and are not written a second time. Definitions only.
+-- The calls on a network (docs/RULES.md, section 6): declare, create, join, leave, deliver. Each
+-- has its refusals in their order, as a list of rules, and its effect, which is that of one node's
+-- step: the node's rules are those of the crate `node`, and are not written a second time.
+-- Definitions only.
 use Prim.Native.Nat.{ℕ, suc}
 use mathlib.Core.Bool.{Bool, not, _&&_}
 use mathlib.Core.List.{List, [], _∷_, _++_}
@@ -23,7 +24,8 @@ use Rattle.protocol.specs.declared.Reply.{Reply}
 use Rattle.protocol.specs.declared.Reply.the-variants.{Declared, Stepped}
 use Rattle.protocol.specs.State.{State, queueLimit, declared, nodeAt, statusAt, keyAt, noticeWaits, wellFormed}
 
--- ---- what a call comes to: the network left behind, the messages posted in their order, and an answer or the reason of a refusal
+-- ---- what a call comes to: the network left behind, the messages posted in their order, and an
+-- answer or the reason of a refusal
 pub record Result : Type 0 where
   pub state : State
   pub posts : List Message
@@ -38,8 +40,8 @@ abbrev pub stepped : Coded Outcome → Coded Reply
 stepped (done o) = done (Stepped o)
 stepped (no r) = no r
 
--- R6.6, R6.7, R6.8, R6.9, node u steps, while `messages` wait: it stands in its place as the step leaves it, and its posts
--- stand at the end
+-- R6.6, R6.7, R6.8, R6.9, node u steps, while `messages` wait: it stands in its place as the step
+-- leaves it, and its posts stand at the end
 abbrev pub commit : State → ℕ → List Message → Effect → Result
 commit s u messages e = record {
   state = record { nodes = set (s .nodes) u (e .node); messages = messages ++ e .posts };
@@ -96,7 +98,8 @@ creating s u = commit s u (s .messages) (createOf u (nodeAt s u))
 abbrev pub peerAt : State → ℕ → Peer
 peerAt s p = record { number = p; key = keyAt s p }
 
--- R6.7: 5 of each number, the step's own rules (6, 23, 24), 25 where a notice waits, 28 where 64 messages do
+-- R6.7: 5 of each number, the step's own rules (6, 23, 24), 25 where a notice waits, 28 where 64
+-- messages do
 abbrev pub joinRules : State → ℕ → ℕ → ℕ → List Rule
 joinRules s u p q =
     (6 when not (wellFormed s))
@@ -147,7 +150,8 @@ deliverRules s place =
     ∷ (29 when not (ltb place (length (s .messages))))
     ∷ []
 
--- what the addressee does: it never says 6 on a well-formed network (`received`, `proofs/Cases.antt`)
+-- what the addressee does: it never says 6 on a well-formed network (`received`,
+-- `proofs/Cases.antt`)
 abbrev pub receiving : State → Message → Effect
 receiving s m = receiveOf (m .to) (nodeAt s (m .to)) m
 

@@ -1,5 +1,5 @@
--- The claim over lists (docs/RULES.md, section 10): what holds after any list of calls from the empty network. It is stated
--- here in full, and cites no proof. Definitions only.
+-- The claim over lists (docs/RULES.md, section 10): what holds after any list of calls from the
+-- empty network. It is stated here in full, and cites no proof. Definitions only.
 use Prim.Native.Nat.{ℕ, _+_, _*_, _<_, _≤_}
 use mathlib.Core.Path.{_≡_}
 use mathlib.Core.Bool.{false, not}
@@ -26,7 +26,8 @@ Inserted s u = T (inserted s u)
 abbrev pub Delivers : State → ℕ → Type 0
 Delivers s place = T (accepted (applyOf s (Deliver place) .said))
 
--- R10.9: of deliveries at these places, one after the other with nothing between them, how many are not refused
+-- R10.9: of deliveries at these places, one after the other with nothing between them, how many are
+-- not refused
 abbrev pub delivered : State → List ℕ → ℕ
 delivered s [] = 0
 delivered s (place ∷ places) = bit (accepted (applyOf s (Deliver place) .said)) + delivered (applyOf s (Deliver place) .state) places
@@ -39,7 +40,8 @@ load ms = 3 * count (λ m. isRequest (m .kind)) ms + count (λ m. not (isRequest
 pub record Lively (s : State) : Type 0 where
   -- R10.8: while a message waits, a delivery at some place is not refused
   pub progress : 0 < length (s .messages) → (place : ℕ) × Delivers s place
-  -- R10.9: of any deliveries that may follow, at whichever places, no more than the load are not refused
+  -- R10.9: of any deliveries that may follow, at whichever places, no more than the load are not
+  -- refused
   pub bound : (places : List ℕ) → delivered s places ≤ load (s .messages)
 
 -- R10.13: each call leaves a well-formed network, and such a network is lively
@@ -52,7 +54,8 @@ SteadyClaim = (s : State) → T (wellFormed s) → Steady s
 
 -- ---- the ring of the inserted nodes
 pub record Ringed (s : State) : Type 0 where
-  -- R10.5: from each inserted node the right links lead once through each inserted node, through no other, and home;
+  -- R10.5: from each inserted node the right links lead once through each inserted node, through no
+  -- other, and home;
   -- R10.6: the key rises at every move but one; a lone node moves to itself
   pub circuit : (u : ℕ) → Inserted s u → Circuit (keyAt s) (rightAt s) (Inserted s) u
   -- R10.7: just one inserted node has a right link to each inserted node

@@ -1,5 +1,6 @@
--- A drain of a network (paper 01: run down; docs/RULES.md, section 8): deliveries one after the other, each at the lowest
--- place where one is not refused, until nothing waits or a budget is spent. Definitions only.
+-- A drain of a network (paper 01: run down; docs/RULES.md, section 8): deliveries one after the
+-- other, each at the lowest place where one is not refused, until nothing waits or a budget is
+-- spent. Definitions only.
 use Prim.Native.Nat.{ℕ, zero, suc}
 use mathlib.Core.Bool.{not, cond}
 use mathlib.Core.List.{List, [], _∷_, _++_}

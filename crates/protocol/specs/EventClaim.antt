@@ -1,6 +1,6 @@
--- R10.3, what each event does to the ring: who is inserted, in which order, and along which right links. It is claimed of
--- every list of calls and of any call after it, and cites no proof. What is said of the ring later can go by the event, and
--- need not go by the call. Definitions only.
+-- R10.3, what each event does to the ring: who is inserted, in which order, and along which right
+-- links. It is claimed of every list of calls and of any call after it, and cites no proof. What is
+-- said of the ring later can go by the event, and need not go by the call. Definitions only.
 use mathlib.Core.Path.{_≡_}
 use mathlib.Core.Logic.{_⊎_, _↔_, _≢_}
 use mathlib.Core.List.{List, [], _∷_, _++_, List·Memᴰ}
@@ -16,7 +16,8 @@ use Rattle.protocol.specs.History.{happened, history}
 use Rattle.protocol.specs.Claim.{Inserted}
 
 -- ---- the order of the inserted nodes
--- L lists the inserted nodes, ascending by key; each has a right link to the next of L, and the last one to the first
+-- L lists the inserted nodes, ascending by key; each has a right link to the next of L, and the
+-- last one to the first
 pub record Ordered (s : State) (L : List ℕ) : Type 0 where
   pub ring : Ring (keyAt s) (rightAt s) L
   pub members : (u : ℕ) → List·Memᴰ u L ↔ Inserted s u

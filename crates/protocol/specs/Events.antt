@@ -1,5 +1,6 @@
--- What a call did to the ring, read off the call and its answer: one event, and who is told inserted after it. No node is
--- looked at, and of a message only whose it is and for whom. Definitions only.
+-- What a call did to the ring, read off the call and its answer: one event, and who is told
+-- inserted after it. No node is looked at, and of a message only whose it is and for whom.
+-- Definitions only.
 use Prim.Native.Nat.{ℕ}
 use mathlib.Core.Bool.{Bool, true, false, cond}
 use lib.Dec.{eqb}
@@ -26,12 +27,13 @@ pub data Event : Type 0 where
   -- u was the last, and went alone
   emptied : (u : ℕ) → Event
 
--- R10.2, a SetR granted by its delivery: where it asked for a join, its sender is let in by the node that it is for, and
--- else released by it
+-- R10.2, a SetR granted by its delivery: where it asked for a join, its sender is let in by the
+-- node that it is for, and else released by it
 abbrev pub grantOf : (ℕ → Bool) → Message → Event
 grantOf joins m = cond (joins (m .sender)) (admitted (m .sender) (m .to)) (released (m .sender) (m .to))
 
--- R10.3, what a call with this answer did; `joins` says of whom the last join or leave that was not refused was a join
+-- R10.3, what a call with this answer did; `joins` says of whom the last join or leave that was not
+-- refused was a join
 abbrev pub eventOf : State → (ℕ → Bool) → Call → Coded Reply → Event
 eventOf s joins (Order (Declare key)) said = stays
 eventOf s joins (Order (Create u)) said = cond (accepted said) (founded u) stays
@@ -44,7 +46,8 @@ eventOf s joins (Deliver place) said = cond (says isGranted said) (grantOf joins
 abbrev pub put : (ℕ → Bool) → ℕ → Bool → ℕ → Bool
 put f u b v = cond (eqb v u) b (f v)
 
--- R10.2, told inserted: those who founded the ring or were let in, and since then were not released and did not go alone
+-- R10.2, told inserted: those who founded the ring or were let in, and since then were not released
+-- and did not go alone
 abbrev pub toldAfter : (ℕ → Bool) → Event → ℕ → Bool
 toldAfter told stays = told
 toldAfter told (founded u) = put told u true

@@ -1,6 +1,6 @@
--- R9.10: 01's example script as a list of calls, and the answers that it must have; and a longer list, in which leaves are
--- granted and a notice comes late. `proofs/Example.antt` shows by computation that the definitions give these answers.
--- Definitions only.
+-- R9.10: 01's example script as a list of calls, and the answers that it must have; and a longer
+-- list, in which leaves are granted and a notice comes late. `proofs/Example.antt` shows by
+-- computation that the definitions give these answers. Definitions only.
 use mathlib.Core.List.{List, [], _∷_}
 use Rattle.refusal.specs.Code.{plain}
 use Rattle.refusal.specs.Rules.{Coded, done, no}
@@ -50,8 +50,8 @@ printed =
     ∷ no (plain 29)
     ∷ []
 
--- three nodes; 2 joins between 0 and 1, whose notice of it stays under way while 2 and then 1 leave again; 1 may not join while that
--- notice waits, and then joins with the left number that it has
+-- three nodes; 2 joins between 0 and 1, whose notice of it stays under way while 2 and then 1 leave
+-- again; 1 may not join while that notice waits, and then joins with the left number that it has
 abbrev pub lateNotice : List Call
 lateNotice =
     Order (Declare 1_000)

@@ -1,5 +1,5 @@
--- What the ring means for the questions, what a drain is, and what is posted: claims beside the one over lists, each stated
--- in full and citing no proof. Definitions only.
+-- What the ring means for the questions, what a drain is, and what is posted: claims beside the one
+-- over lists, each stated in full and citing no proof. Definitions only.
 use Prim.Native.Nat.{ℕ, _<_, _≤_}
 use mathlib.Core.Path.{_≡_}
 use mathlib.Core.Logic.{_≢_}
@@ -45,7 +45,8 @@ pub record FindsOwner (s : State) (start serial : ℕ) (said : Coded Reply) : Ty
   -- and no fewer hops do
   pub first : (k : ℕ) → k < hops → after (rightAt s) start k ≢ node
 
--- R7.4, on a network that some list of calls makes, from an inserted start and for a serial in range
+-- R7.4, on a network that some list of calls makes, from an inserted start and for a serial in
+-- range
 abbrev pub OwnerClaim : Type 0
 OwnerClaim = (calls : List Call) (start serial : ℕ) → Inserted (history calls .state) start → T (inRange serial)
     → FindsOwner (history calls .state) start serial (ownerOf (history calls .state) start serial)
@@ -55,8 +56,8 @@ abbrev pub AlwaysFound : Type 0
 AlwaysFound = (calls : List Call) (start serial : ℕ) → ¬ (ownerOf (history calls .state) start serial ≡ no (plain 31))
 
 -- ---- a drain
--- R8.1, with this budget: it is its deliveries, no more than the budget, none of them refused, and fewer only where nothing
--- waits at the end
+-- R8.1, with this budget: it is its deliveries, no more than the budget, none of them refused, and
+-- fewer only where nothing waits at the end
 pub record Drains (s : State) (budget : ℕ) : Type 0 where
   pub result : drainOf s budget ≡ drained s (places budget s)
   pub within-budget : length (places budget s) ≤ budget
@@ -66,8 +67,8 @@ pub record Drains (s : State) (budget : ℕ) : Type 0 where
 abbrev pub DrainClaim : Type 0
 DrainClaim = (s : State) → T (wellFormed s) → (budget : ℕ) → Drains s budget
 
--- R10.1, a drain counts as its deliveries: it leads where the list of calls leads that has them at its end, and posts what
--- they post
+-- R10.1, a drain counts as its deliveries: it leads where the list of calls leads that has them at
+-- its end, and posts what they post
 pub record IsCalls (calls : List Call) (budget : ℕ) : Type 0 where
   pub state : drainOf (history calls .state) budget .state ≡ history (calls ++ map Deliver (places budget (history calls .state))) .state
   pub posts : length (drainOf (history calls .state) budget .posts) ≡ posted (history calls .state) (map Deliver (places budget (history calls .state)))
@@ -81,6 +82,7 @@ abbrev pub remaining : State → Call → Coded Reply → List Message
 remaining s (Order order) said = s .messages
 remaining s (Deliver place) said = cond (accepted said) (without place (s .messages)) (s .messages)
 
--- R6.7, R6.8, R6.9, of every network and call: what is posted stands behind these, and nothing else does
+-- R6.7, R6.8, R6.9, of every network and call: what is posted stands behind these, and nothing else
+-- does
 abbrev pub PostsClaim : Type 0
 PostsClaim = (s : State) (call : Call) → applyOf s call .state .messages ≡ remaining s call (applyOf s call .said) ++ applyOf s call .posts

@@ -1,5 +1,6 @@
--- What comes of a list of calls from the empty network, refused calls included (R10.1); and beside it which nodes are
--- inserted as the calls and their answers tell it (R10.2): the events of the calls, one after the other. Definitions only.
+-- What comes of a list of calls from the empty network, refused calls included (R10.1); and beside
+-- it which nodes are inserted as the calls and their answers tell it (R10.2): the events of the
+-- calls, one after the other. Definitions only.
 use Prim.Native.Nat.{ℕ, _+_}
 use mathlib.Core.Bool.{Bool, true, false, cond}
 use mathlib.Core.List.{List, [], _∷_}
@@ -14,8 +15,8 @@ use Rattle.protocol.specs.Calls.{applyOf}
 use Rattle.protocol.specs.Answer.{accepted}
 use Rattle.protocol.specs.Events.{Event, eventOf, put, toldAfter}
 
--- ---- the list so far: the network it leads to, who is told inserted, and of whom the last join or leave that was not
--- refused was a join
+-- ---- the list so far: the network it leads to, who is told inserted, and of whom the last join or
+-- leave that was not refused was a join
 pub record History : Type 0 where
   pub state : State
   pub told : ℕ → Bool

@@ -1,5 +1,5 @@
--- What a network is asked without being changed: who is inserted, and which node owns a serial. A question has its refusals
--- in their order, as a call has. Definitions only.
+-- What a network is asked without being changed: who is inserted, and which node owns a serial. A
+-- question has its refusals in their order, as a call has. Definitions only.
 use Prim.Native.Nat.{ℕ, zero, suc}
 use mathlib.Core.Bool.{not, cond}
 use mathlib.Core.List.{List, [], _∷_}
@@ -20,7 +20,8 @@ use Rattle.protocol.specs.State.{State, declared, keyAt, rightAt, wellFo
 abbrev pub insertedWord : State → ℕ
 insertedWord s = wordBelow (length (s .nodes)) (inserted s)
 
--- R4.2: how many are inserted, which is the number of the word's ones (`size-is-ones`, `proofs/Members.antt`)
+-- R4.2: how many are inserted, which is the number of the word's ones (`size-is-ones`,
+-- `proofs/Members.antt`)
 abbrev pub insertedCount : State → ℕ
 insertedCount s = countBelow (length (s .nodes)) (inserted s)
 
@@ -34,8 +35,8 @@ pub data Walk : Type 0 where
   found : ℕ → ℕ → Walk
   lost : Walk
 
--- R7.1, at node u, after some hops: u is the owner if the serial is in [key, key of right link), and else it is looked for
--- from the right link on; R7.2: a missing right link ends the walk
+-- R7.1, at node u, after some hops: u is the owner if the serial is in [key, key of right link),
+-- and else it is looked for from the right link on; R7.2: a missing right link ends the walk
 abbrev pub ownerAt : State → ℕ → ℕ → ℕ → Link → (ℕ → Walk) → Walk
 ownerAt s serial u hops Unlinked beyond = lost
 ownerAt s serial u hops (To q) beyond = cond (within (keyAt s u) (keyAt s q) serial) (found u hops) (beyond q)

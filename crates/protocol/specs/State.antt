@@ -1,6 +1,6 @@
--- A network as the lists of its nodes and of its waiting messages (paper 01: a floor), when it is well formed (in shape),
--- and which of its nodes are inserted. The lists may have any length; the limits are clauses of well-formedness.
--- Definitions only.
+-- A network as the lists of its nodes and of its waiting messages (paper 01: a floor), when it is
+-- well formed (in shape), and which of its nodes are inserted. The lists may have any length; the
+-- limits are clauses of well-formedness. Definitions only.
 use Prim.Native.Nat.{ℕ}
 use mathlib.Core.Bool.{Bool, true, false, not, _&&_, _||_}
 use mathlib.Core.List.{List, []}
@@ -81,16 +81,17 @@ exchanges Ins = 1
 exchanges In = 0
 exchanges Del = 1
 
--- what is asked of one node: R2.4, R2.5, R2.6, that it fits among the nodes declared; R2.4, that its key is its own; R2.7, that
--- it has no more exchanges than its status allows
+-- what is asked of one node: R2.4, R2.5, R2.6, that it fits among the nodes declared; R2.4, that
+-- its key is its own; R2.7, that it has no more exchanges than its status allows
 abbrev pub nodeIsWellFormed : State → ℕ → Bool
 nodeIsWellFormed s u =
     nodeFits (length (s .nodes)) (nodeAt s u)
     && (keyIsNew s u
     && leb (count (isExchangeOf u) (s .messages)) (exchanges (statusAt s u)))
 
--- R2.2, the limits; R2.4, R2.5, R2.6, R2.7, each node; R2.5, each message. R2.3 speaks of what lies past the counts, which is no part
--- of these lists. R2.8 is in the fields' type, and stands apart, below. No clause asks for a ring (R2.1).
+-- R2.2, the limits; R2.4, R2.5, R2.6, R2.7, each node; R2.5, each message. R2.3 speaks of what lies
+-- past the counts, which is no part of these lists. R2.8 is in the fields' type, and stands apart,
+-- below. No clause asks for a ring (R2.1).
 unfoldable pub wellFormed : State → Bool
 wellFormed s =
     (leb (length (s .nodes)) capacity && leb (length (s .messages)) queueLimit)

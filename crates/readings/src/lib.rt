@@ -1,5 +1,6 @@
-// The arrays of a network read where they lie, behind a reference: what the crates `access` and `searches` read by value, by the same definitions, with no array copied.
-// The network is as it was after each. Each function is walked by hand, as in the crate `stores`.
+// The arrays of a network read where they lie, behind a reference: what the crates `access` and
+// `searches` read by value, by the same definitions, with no array copied. The network is as it was
+// after each. Each function is walked by hand, as in the crate `stores`.
 ghost use mathlib.Core.Path.{_≡_};
 ghost use Rattle.access.specs.Sights.{sightOf, arrivalOf};
 ghost use Rattle.searches.specs.Searches.{keyIsTaken, someStands, noticeWaits, foundOf};

@@ -1,5 +1,5 @@
--- Laws of refusals: each has a number of its own, so a number names its refusal; rules after other rules; what it shows that no rule refuses,
--- and that a number is not given. Assumes nothing.
+-- Laws of refusals: each has a number of its own, so a number names its refusal; rules after other
+-- rules; what it shows that no rule refuses, and that a number is not given. Assumes nothing.
 use mathlib.Core.Path.{_≡_, refl, sym, ap, _∙_}
 use mathlib.Core.Bool.{Bool, true, false, _||_, cond, true≢false}
 use mathlib.Core.List.{List, [], _∷_, _++_}
@@ -67,7 +67,8 @@ cleared [] e = tt
 cleared (rule r true ∷ rules) e = absurd (Option·some-ne-none r e)
 cleared (rule r false ∷ rules) e = (refl, cleared rules e)
 
--- ---- a number that is not given: each rule has another, or its condition does not hold where no rule before it refuses
+-- ---- a number that is not given: each rule has another, or its condition does not hold where no
+-- rule before it refuses
 pub data Never (n : ℕ) : List Rule → Type 0 where
   end : Never n []
   other : {m : ℕ} {refuses : Bool} {rules : List Rule} → eqb m n ≡ false → (refuses ≡ false → Never n rules) → Never n (rule (plain m) refuses ∷ rules)

@@ -1,5 +1,5 @@
--- R6.1, how a call refuses: its rules stand in their order, and the first whose condition holds gives its reason.
--- Definitions only.
+-- R6.1, how a call refuses: its rules stand in their order, and the first whose condition holds
+-- gives its reason. Definitions only.
 use Prim.Native.Nat.{ℕ}
 use mathlib.Core.Bool.{Bool, cond}
 use mathlib.Core.List.{List, [], _∷_}

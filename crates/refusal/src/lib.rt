@@ -1,5 +1,5 @@
-// The refusals (docs/RULES.md, section 6): a named case for each number, the number of a case, and rules of refusal in their
-// order (R6.1).
+// The refusals (docs/RULES.md, section 6): a named case for each number, the number of a case, and
+// rules of refusal in their order (R6.1).
 ghost use mathlib.Core.Path.{_≡_};
 ghost use mathlib.Core.Bool.{cond};
 ghost use mathlib.Core.Option.{some};

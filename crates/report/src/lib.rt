@@ -1,4 +1,5 @@
-// What is told of a call, a question or a drain, and the tally that a drain keeps of its deliveries.
+// What is told of a call, a question or a drain, and the tally that a drain keeps of its
+// deliveries.
 ghost use mathlib.Core.Path.{_≡_};
 ghost use mathlib.Core.Bool.{_&&_};
 ghost use Prim.Native.Nat.{_+_, _%_, _^_};
@@ -52,7 +53,8 @@ pub fn goes_on(tally: Tally, budget: u16, waiting: u8) -> bool
     (tally.made < budget) & (0 < waiting)
 }
 
-// One delivery more. Counts wrap, so that nothing is asked of the caller; those of a drain stay far below.
+// One delivery more. Counts wrap, so that nothing is asked of the caller; those of a drain stay far
+// below.
 pub fn tallied(tally: Tally, report: Report) -> Tally
     ensures { λ r. ⌜ (r .made ≡ (tally .made + 1) % 2 ^ 16) × (r .posted ≡ (tally .posted + report .posted) % 2 ^ 32) ⌝ }
 {

@@ -1,6 +1,7 @@
-// The ring program (R9.9): a script on standard input, its printout on standard output. One byte more than a script may have is asked for, so that
-// a longer one shows. A script that cannot be read, and a printout that cannot be written, is told on standard error: a program has no
-// exit status.
+// The ring program (R9.9): a script on standard input, its printout on standard output. One byte
+// more than a script may have is asked for, so that a longer one shows. A script that cannot be
+// read, and a printout that cannot be written, is told on standard error: a program has no exit
+// status.
 ghost use Rattle.io.specs.Counts.{Counts};
 ghost use mathlib.Core.Path.{_≡_};
 ghost use lib.ListN.{length};
@@ -8,7 +9,8 @@ use libc::STDERR_FILENO;
 use libc::STDIN_FILENO;
 use libc::STDOUT_FILENO;
 
-// What reading came to: so many bytes of the script, at the start of the buffer. Where a read failed, none counts.
+// What reading came to: so many bytes of the script, at the start of the buffer. Where a read
+// failed, none counts.
 struct Input {
     size: usize,
     failed: bool,
@@ -20,9 +22,9 @@ fn script_buffer() -> [u8; 65537]
     [0; 65537]
 }
 
-// Reads until the input ends or the buffer is full: a read then has no room, and answers 0 as at the end. A pipe hands out a piece at a
-// time, and a read that a signal interrupts is made again. Nothing says how often, so the turns are counted down, from a number that no run
-// uses up.
+// Reads until the input ends or the buffer is full: a read then has no room, and answers 0 as at
+// the end. A pipe hands out a piece at a time, and a read that a signal interrupts is made again.
+// Nothing says how often, so the turns are counted down, from a number that no run uses up.
 fn read_script(script: &mut [u8]) -> Input
     ensures { λ r. ⌜ Counts (r .size) (now (script .exit)) ⌝ }
 {

@@ -1,5 +1,6 @@
--- No rules stand here: it is what the code decides from the values that it looks at, by tests in the order of the rules. The rules are those of
--- the crate `protocol`, and that these decisions come to them is proved in the crate `engine`. Definitions only.
+-- No rules stand here: it is what the code decides from the values that it looks at, by tests in
+-- the order of the rules. The rules are those of the crate `protocol`, and that these decisions
+-- come to them is proved in the crate `engine`. Definitions only.
 use Prim.Native.Nat.{ℕ, _-_}
 use mathlib.Core.Bool.{Bool, not, _&&_, cond}
 use mathlib.Core.List.{List, [], _∷_}

@@ -1,5 +1,6 @@
--- A decision on a network, from what is read there: what an order or a delivery decides from its own sight is the decision on the network. The walks
--- and proofs of `decide` cite these, so that no rule is opened there. Assumes nothing.
+-- A decision on a network, from what is read there: what an order or a delivery decides from its
+-- own sight is the decision on the network. The walks and proofs of `decide` cite these, so that no
+-- rule is opened there. Assumes nothing.
 use Prim.Native.Nat.{ℕ}
 use mathlib.Core.Path.{_≡_, sym, ap, _∙_}
 use Rattle.protocol.specs.declared.Order.{Order as AnOrder}

@@ -1,5 +1,7 @@
--- What walks need of the types that a decision meets: each as plain data (`Data.antt` of the crate `stores`), and that a value of it is of its
--- machine type. Where a walk reads a local of a declared type it names that type, `{τ = ..}`, since antt takes long to find two spellings of it the same.
+-- What walks need of the types that a decision meets: each as plain data (`Data.antt` of the crate
+-- `stores`), and that a value of it is of its machine type. Where a walk reads a local of a
+-- declared type it names that type, `{τ = ..}`, since antt takes long to find two spellings of it
+-- the same.
 --     IsOf D x         the value x as the machine holds it is of the type D
 --     by-call          by cases on a call
 -- Assumes `Given`.

@@ -1,5 +1,6 @@
--- No rules stand here: it is how the code looks for the place where a drain delivers next. That this is the lowest place where a delivery on a
--- well-formed network is not refused is proved in the crate `engine`. Definitions only.
+-- No rules stand here: it is how the code looks for the place where a drain delivers next. That
+-- this is the lowest place where a delivery on a well-formed network is not refused is proved in
+-- the crate `engine`. Definitions only.
 use Prim.Native.Nat.{ℕ, zero, suc}
 use mathlib.Core.Bool.{Bool, not, _||_, cond}
 use lib.Dec.{ltb}

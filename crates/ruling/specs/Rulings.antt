@@ -1,4 +1,5 @@
--- No rules stand here: it is what the code decides of a call on a network, from what the call looks at there. Definitions only.
+-- No rules stand here: it is what the code decides of a call on a network, from what the call looks
+-- at there. Definitions only.
 use Rattle.protocol.specs.declared.Call.{Call}
 use Rattle.protocol.specs.declared.Call.the-variants.{Order, Deliver}
 use Rattle.network.specs.declared.Network.{Network}

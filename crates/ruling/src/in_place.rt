@@ -1,4 +1,5 @@
-// A decision on a network where it lies: the network is lent to the functions that read it, and the rules decide by value. Walked by hand.
+// A decision on a network where it lies: the network is lent to the functions that read it, and the
+// rules decide by value. Walked by hand.
 ghost use mathlib.Core.Path.{_≡_};
 ghost use Rattle.decision.specs.Decided.{decided};
 ghost use Rattle.ruling.specs.Rulings.{decisionOn};

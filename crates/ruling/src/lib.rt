@@ -1,6 +1,7 @@
-// What a call on any network comes to: what its rules look at is read out of the arrays (`access`, `searches`, and in place
-// `readings`), and the decision is made from that (`rules`). By value and in place it is the same decision, and nothing is
-// changed. That on a well-formed network it is what the crate `protocol` says is proved in the crate `engine`.
+// What a call on any network comes to: what its rules look at is read out of the arrays (`access`,
+// `searches`, and in place `readings`), and the decision is made from that (`rules`). By value and
+// in place it is the same decision, and nothing is changed. That on a well-formed network it is
+// what the crate `protocol` says is proved in the crate `engine`.
 ghost use mathlib.Core.Path.{_≡_};
 ghost use Rattle.decision.specs.Decided.{decided};
 ghost use Rattle.ruling.specs.Rulings.{decisionOn};

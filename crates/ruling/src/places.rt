@@ -4,7 +4,8 @@ ghost use Rattle.ruling.specs.Places.{findsRoom, lowestPlace};
 use network::Network;
 use network::QUEUE_LIMIT;
 
-// Whether a delivery at a place finds room for what it posts: only a full queue has none, and only for a request that would be granted.
+// Whether a delivery at a place finds room for what it posts: only a full queue has none, and only
+// for a request that would be granted.
 fn finds_room(network: Network, place: u8) -> bool
     ensures { λ r. ⌜ r ≡ findsRoom network place ⌝ }
 {

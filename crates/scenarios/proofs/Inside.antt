@@ -1,4 +1,5 @@
--- A piece that is put into a buffer from a place inside it ends inside it, be there room for the piece or not. Assumes nothing.
+-- A piece that is put into a buffer from a place inside it ends inside it, be there room for the
+-- piece or not. Assumes nothing.
 use mathlib.Core.Path.{_≡_, refl, sym, ap}
 use mathlib.Core.Bool.{Bool, true, false, cond}
 use mathlib.Core.List.{List}

@@ -1,10 +1,11 @@
-// What nodes do where messages come late, overtake each other, or find their node changed. No script has an answer dropped: none waits for a node that
-// is out or in (R2.7).
+// What nodes do where messages come late, overtake each other, or find their node changed. No
+// script has an answer dropped: none waits for a node that is out or in (R2.7).
 use crate::scene;
 use model::sheet::Sheet;
 
 pub(crate) fn notices(run: &mut Sheet) {
-    // R5.6, R5.7, R5.12: three nodes come in on the left of node 0, one behind the other. Each notice is newer, so that node 0 asks the last of them.
+    // R5.6, R5.7, R5.12: three nodes come in on the left of node 0, one behind the other. Each
+    // notice is newer, so that node 0 asks the last of them.
     scene(
         run,
         b"each newer notice is taken\n\
@@ -18,7 +19,8 @@ pub(crate) fn notices(run: &mut Sheet) {
           JN\x03\x02\x00DL\x00DL\x00DL\x00\
           LV\x00DL\x00",
     );
-    // R5.12: the second notice overtakes the first, which then changes nothing, so that node 0 asks node 2.
+    // R5.12: the second notice overtakes the first, which then changes nothing, so that node 0 asks
+    // node 2.
     scene(
         run,
         b"a notice that comes late is old\n\
@@ -33,7 +35,8 @@ pub(crate) fn notices(run: &mut Sheet) {
           DL\x00\
           LV\x00DL\x00",
     );
-    // R5.2, R1.5: node 1 leaves with the left number 1 and joins with it again. So the notice of 2's leave has 2 and is taken, and node 1 asks node 0.
+    // R5.2, R1.5: node 1 leaves with the left number 1 and joins with it again. So the notice of
+    // 2's leave has 2 and is taken, and node 1 asks node 0.
     scene(
         run,
         b"a second join sends its left number, and later notices are taken\n\
@@ -48,7 +51,8 @@ pub(crate) fn notices(run: &mut Sheet) {
           LV\x02DL\x00DL\x00DL\x00\
           LV\x01DL\x00",
     );
-    // R5.1, R5.3: node 0 has the left number 2 when it leaves alone. Created again it has the first numbers, and a notice with 1 is newer.
+    // R5.1, R5.3: node 0 has the left number 2 when it leaves alone. Created again it has the first
+    // numbers, and a notice with 1 is newer.
     scene(
         run,
         b"a second creation begins with the first numbers\n\
@@ -64,7 +68,8 @@ pub(crate) fn notices(run: &mut Sheet) {
 }
 
 pub(crate) fn drops(run: &mut Sheet) {
-    // R5.13: node 0 leaves alone before the request of node 1 comes. Node 1 goes on waiting for an answer.
+    // R5.13: node 0 leaves alone before the request of node 1 comes. Node 1 goes on waiting for an
+    // answer.
     scene(
         run,
         b"a request to a node that is out is dropped\n\
@@ -77,7 +82,8 @@ pub(crate) fn drops(run: &mut Sheet) {
           JN\x01\x00\x00\
           CR\x00",
     );
-    // R5.13, R4.1: node 2 asks node 1 to let it go, but that is gone when the request comes. Node 2 stays inserted.
+    // R5.13, R4.1: node 2 asks node 1 to let it go, but that is gone when the request comes. Node 2
+    // stays inserted.
     scene(
         run,
         b"a request to leave finds its node gone and is dropped\n\
@@ -93,7 +99,8 @@ pub(crate) fn drops(run: &mut Sheet) {
           RD\xff\xff\
           LV\x02",
     );
-    // R5.13: node 0 leaves alone before it hears that node 1 came and went, and can be created again once both notices are dropped.
+    // R5.13: node 0 leaves alone before it hears that node 1 came and went, and can be created
+    // again once both notices are dropped.
     scene(
         run,
         b"notices to a node that is out are dropped\n\
@@ -110,7 +117,8 @@ pub(crate) fn drops(run: &mut Sheet) {
 }
 
 pub(crate) fn denials(run: &mut Sheet) {
-    // R5.5, R5.9, R5.11: each asks the other, and neither is in when it is asked; both are in again, and one of them may leave.
+    // R5.5, R5.9, R5.11: each asks the other, and neither is in when it is asked; both are in
+    // again, and one of them may leave.
     scene(
         run,
         b"two neighbours leave at once, and both are denied\n\
@@ -137,7 +145,8 @@ pub(crate) fn denials(run: &mut Sheet) {
           DL\x00\
           JN\x02\x00\x00RD\xff\xff",
     );
-    // R5.5: node 1 asks node 0, on whose right is node 2 by now; then node 2, which has not heard that it is in; then node 2 once more.
+    // R5.5: node 1 asks node 0, on whose right is node 2 by now; then node 2, which has not heard
+    // that it is in; then node 2 once more.
     scene(
         run,
         b"a leave is denied by a former left neighbour, and by one that is still joining\n\

@@ -4,7 +4,8 @@ use crate::scene;
 use model::sheet::Sheet;
 
 pub(crate) fn cases(run: &mut Sheet) {
-    // R8.1, R8.2, R9.3: budgets of 0, of 1 and 2 with more waiting, and of 256 and 65,535 with less.
+    // R8.1, R8.2, R9.3: budgets of 0, of 1 and 2 with more waiting, and of 256 and 65,535 with
+    // less.
     scene(
         run,
         b"a drain ends with its budget, or when nothing waits\n\
@@ -23,8 +24,9 @@ pub(crate) fn cases(run: &mut Sheet) {
     refused_place(run);
 }
 
-// R8.1, R6.10, refusal 28: the request of node 31 comes to stand at place 0, before the notices and answers of the nodes 1 to 30, and once 30, 29 and 28
-// have left, 64 messages wait and node 0 would grant it. A drain of 1 delivers the notice at place 1; then, with 63 waiting, the request.
+// R8.1, R6.10, refusal 28: the request of node 31 comes to stand at place 0, before the notices and
+// answers of the nodes 1 to 30, and once 30, 29 and 28 have left, 64 messages wait and node 0 would
+// grant it. A drain of 1 delivers the notice at place 1; then, with 63 waiting, the request.
 fn refused_place(run: &mut Sheet) {
     let mut script = io::buffer();
     let at = crowd::declare_all(&mut script);

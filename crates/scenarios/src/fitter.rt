@@ -12,9 +12,10 @@ pub(crate) fn cases(run: &mut Sheet) {
           BC\x00\x00\x12\x34",
     );
     full_network(run);
-    // R6.10, refusal 28: nodes 29 and 1 ask node 0 to leave, and 64 messages wait, as RD with no budget says. The request of 29, which is the right
-    // neighbour of 0, would be granted, that of 1 denied. The first is refused before and after the second is delivered; with one message less it is
-    // granted.
+    // R6.10, refusal 28: nodes 29 and 1 ask node 0 to leave, and 64 messages wait, as RD with no
+    // budget says. The request of 29, which is the right neighbour of 0, would be granted, that of
+    // 1 denied. The first is refused before and after the second is delivered; with one message
+    // less it is granted.
     crowd::scene_after(
         run,
         31,
@@ -34,7 +35,8 @@ pub(crate) fn cases(run: &mut Sheet) {
     );
 }
 
-// R1.7, R6.5, refusal 20: neither a new key nor one that is taken finds a place, and node 31, the last, can be created.
+// R1.7, R6.5, refusal 20: neither a new key nor one that is taken finds a place, and node 31, the
+// last, can be created.
 fn full_network(run: &mut Sheet) {
     let mut script = io::buffer();
     let at = crowd::declare_all(&mut script);

@@ -1,4 +1,5 @@
-// The refusals from the input. Only 1 and 2 stop the reading: after each of the others but 7 a later record is done (R9.5).
+// The refusals from the input. Only 1 and 2 stop the reading: after each of the others but 7 a
+// later record is done (R9.5).
 ghost use mathlib.Core.Path.{_≡_};
 ghost use lib.ListN.{length};
 use crate::scene;
@@ -56,7 +57,8 @@ pub(crate) fn fields(run: &mut Sheet) {
           ON\x00\x00\xe1\xf5\x05\
           ON\x00\xff\xe0\xf5\x05",
     );
-    // R6.5, R6.6, R6.7, R6.8, R7.3, refusal 5: each field that names a node, and a question with a digit above 9 as well: the start comes first.
+    // R6.5, R6.6, R6.7, R6.8, R7.3, refusal 5: each field that names a node, and a question with a
+    // digit above 9 as well: the start comes first.
     scene(
         run,
         b"no 5: node 2 is not declared\n\
@@ -72,7 +74,8 @@ pub(crate) fn fields(run: &mut Sheet) {
           OC\x02\x00\x00\x00\x0a\
           CR\x00",
     );
-    // R7.3, R9.6, refusals 5, 3, 4 and 30: node 1 is not declared, node 0 is and is out; the serial has a digit above 9, is too large, or is right.
+    // R7.3, R9.6, refusals 5, 3, 4 and 30: node 1 is not declared, node 0 is and is out; the serial
+    // has a digit above 9, is too large, or is right.
     scene(
         run,
         b"no 5: an undeclared start, before 3 and 4 of its serial, and these before 30\n\

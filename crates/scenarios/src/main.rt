@@ -1,9 +1,13 @@
-// Scripts for the cases without a mark in paper 01, for the refusals and for the outcomes, run one after the other: for each a title and its printout, in which a line says what the
-// title names. Above each stand the numbers of the rules in docs/RULES.md that it shows. Each script runs through the second implementation too; where the
-// two printouts differ a line says so, and the last line says how many did. The gate compares all of it with the file `stdout`.
+// Scripts for the cases without a mark in paper 01, for the refusals and for the outcomes, run one
+// after the other: for each a title and its printout, in which a line says what the title names.
+// Above each stand the numbers of the rules in docs/RULES.md that it shows. Each script runs
+// through the second implementation too; where the two printouts differ a line says so, and the
+// last line says how many did. The gate compares all of it with the file `stdout`.
 //
-// The refusals 6, 27 and 31 have no script, and stand in `doors`. Every network that a script makes is well formed (6), and from every inserted node of it an owner is
-// found (31). The highest right number rises by one at most with each join or leave, and no script has room for 65,535 of them (27).
+// The refusals 6, 27 and 31 have no script, and stand in `doors`. Every network that a script makes
+// is well formed (6), and from every inserted node of it an owner is found (31). The highest right
+// number rises by one at most with each join or leave, and no script has room for 65,535 of them
+// (27).
 ghost use Prim.Native.Nat.{_≤_};
 ghost use lib.ListN.{length};
 
@@ -19,7 +23,8 @@ use model::printing::first_difference;
 use model::sheet::*;
 use model::text::Page;
 
-// The sheet of the second implementation serves all scripts. In a row that it leaves alone stand how many scripts were run, and how many differed.
+// The sheet of the second implementation serves all scripts. In a row that it leaves alone stand
+// how many scripts were run, and how many differed.
 const RUN: usize = 16;
 
 const SCRIPTS: usize = 0;

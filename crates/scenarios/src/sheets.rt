@@ -1,10 +1,11 @@
-// The sheets of the folder `examples`, one record to a line. There each record has a comment that says what it does, and beside each sheet stands its
-// printout, which is the same.
+// The sheets of the folder `examples`, one record to a line. There each record has a comment that
+// says what it does, and beside each sheet stands its printout, which is the same.
 use crate::scene;
 use model::sheet::Sheet;
 
 pub(crate) fn all(run: &mut Sheet) {
-    // R5.5, R5.9, R5.11: node 0 asks to leave before it has heard of its left neighbour, and so asks and denies itself.
+    // R5.5, R5.9, R5.11: node 0 asks to leave before it has heard of its left neighbour, and so
+    // asks and denies itself.
     scene(
         run,
         b"paper\n\
@@ -49,7 +50,8 @@ pub(crate) fn all(run: &mut Sheet) {
           OC\x00\x00\x00\x00\x0a\
           OC\x09\x00\x00\x00\x0a",
     );
-    // R4.1, R3.2, R5.1, R5.2, R5.3, R5.4, R5.5, R5.6, R5.7, R5.8, R5.10, R7.1, refusal 30: each message of a join and of a leave, and who owns what before and after.
+    // R4.1, R3.2, R5.1, R5.2, R5.3, R5.4, R5.5, R5.6, R5.7, R5.8, R5.10, R7.1, refusal 30: each
+    // message of a join and of a leave, and who owns what before and after.
     scene(
         run,
         b"join-and-leave\n\
@@ -78,7 +80,8 @@ pub(crate) fn all(run: &mut Sheet) {
           LV\x00\
           OC\x00\x00\x00\x25\x00",
     );
-    // R5.5, R5.9, R5.11, R5.12, R6.9, R7.1, refusals 23 and 29: one of four requests is granted, and messages are delivered out of order.
+    // R5.5, R5.9, R5.11, R5.12, R6.9, R7.1, refusals 23 and 29: one of four requests is granted,
+    // and messages are delivered out of order.
     scene(
         run,
         b"four-at-once\n\

@@ -1,4 +1,5 @@
-// The refusals from the state; 20 is among the fitter's cases. After each of them a later record is done.
+// The refusals from the state; 20 is among the fitter's cases. After each of them a later record is
+// done.
 use crate::crowd;
 use crate::scene;
 use model::sheet::Sheet;
@@ -12,7 +13,8 @@ pub(crate) fn orders(run: &mut Sheet) {
           BN\xe8\x03\x00\x00\
           BC\x00\x00\x20\x00",
     );
-    // R6.6, R5.1, R5.3, refusal 22: of a node that is in and of another; once all are out node 1 can be created.
+    // R6.6, R5.1, R5.3, refusal 22: of a node that is in and of another; once all are out node 1
+    // can be created.
     scene(
         run,
         b"no 22: a creation while a node is not out\n\
@@ -48,7 +50,8 @@ pub(crate) fn orders(run: &mut Sheet) {
           JN\x02\x00\x02\
           JN\x02\x00\x00",
     );
-    // R6.6, R6.7, R5.13, refusal 25: node 1 joins and leaves, and node 0 leaves alone, before it hears of either. Then it can neither be created nor join.
+    // R6.6, R6.7, R5.13, refusal 25: node 1 joins and leaves, and node 0 leaves alone, before it
+    // hears of either. Then it can neither be created nor join.
     scene(
         run,
         b"no 25: a left notice waits for node 0\n\
@@ -79,8 +82,9 @@ pub(crate) fn orders(run: &mut Sheet) {
           LV\x01\
           DL\x00",
     );
-    // R3.1, R6.7, refusal 24: on the way from 3,000 up past the end of the keys to 1,000 lie neither 2,000 nor the two ends, but 0 and 4,000; from a key round
-    // to itself lie all but that one.
+    // R3.1, R6.7, refusal 24: on the way from 3,000 up past the end of the keys to 1,000 lie
+    // neither 2,000 nor the two ends, but 0 and 4,000; from a key round to itself lie all but that
+    // one.
     scene(
         run,
         b"no 24: a join where the left key is above the right, or the same\n\
@@ -100,8 +104,9 @@ pub(crate) fn orders(run: &mut Sheet) {
 }
 
 pub(crate) fn full_queues(run: &mut Sheet) {
-    // R6.7, R6.8, R6.9, R5.3, refusal 28: nodes 22 and 23 ask to join, and 64 messages wait: a join of node 24, a leave of node 0 and the delivery of the
-    // request of 22 are refused. Then node 1 leaves, the last that had joined; 64 wait again, and node 0, now alone, leaves too.
+    // R6.7, R6.8, R6.9, R5.3, refusal 28: nodes 22 and 23 ask to join, and 64 messages wait: a join
+    // of node 24, a leave of node 0 and the delivery of the request of 22 are refused. Then node 1
+    // leaves, the last that had joined; 64 wait again, and node 0, now alone, leaves too.
     crowd::scene_after(
         run,
         21,
@@ -120,8 +125,9 @@ pub(crate) fn full_queues(run: &mut Sheet) {
           RD\xff\xff\
           JN\x18\x00\x01",
     );
-    // R6.1, R6.3, R6.6, R6.7, R6.8: 64 messages wait, among them a notice for node 20, which is out. Each record meets several refusals at once, as the join
-    // of node 20 between 1 and 0 meets 24, 25 and 28, and the first is told.
+    // R6.1, R6.3, R6.6, R6.7, R6.8: 64 messages wait, among them a notice for node 20, which is
+    // out. Each record meets several refusals at once, as the join of node 20 between 1 and 0 meets
+    // 24, 25 and 28, and the first is told.
     crowd::scene_after(
         run,
         21,
@@ -157,7 +163,8 @@ pub(crate) fn deliveries_and_questions(run: &mut Sheet) {
           DL\x01\
           DL\x00",
     );
-    // R4.1, R7.3, refusal 30: node 0 is out, and node 1 is joining; once that is granted it is asked.
+    // R4.1, R7.3, refusal 30: node 0 is out, and node 1 is joining; once that is granted it is
+    // asked.
     scene(
         run,
         b"no 30: a question from a node not inserted\n\

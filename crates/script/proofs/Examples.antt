@@ -1,6 +1,5 @@
--- What is read of paper 01's example script, and of single records for the rules R9.2, R9.3, R9.4 and the refusals 1 to 4. Each
--- computes.
--- Assumes nothing.
+-- What is read of paper 01's example script, and of single records for the rules R9.2, R9.3, R9.4
+-- and the refusals 1 to 4. Each computes. Assumes nothing.
 use Prim.Native.Nat.{ℕ, zero, suc}
 use mathlib.Core.Path.{_≡_, refl}
 use mathlib.Core.List.{List, [], _∷_}
@@ -57,7 +56,8 @@ paper-script :
 unfolding readAt readings paperScript
 paper-script = refl
 
--- ---- R9.4: bytes of a serial in the one form and in the other, and refusals 3 and 4, after which the cursor goes on
+-- ---- R9.4: bytes of a serial in the one form and in the other, and refusals 3 and 4, after which
+-- the cursor goes on
 packed : readAt (0x42 ∷ 0x43 ∷ 0x00 ∷ 0x00 ∷ 0x12 ∷ 0x34 ∷ []) 0 ≡ next (Declare (Value 1_234)) 6
 unfolding readAt
 packed = refl
@@ -75,7 +75,8 @@ low-byte-first : readAt (0x52 ∷ 0x44 ∷ 0x01 ∷ 0x02 ∷ []) 0 ≡ next (Dra
 unfolding readAt
 low-byte-first = refl
 
--- ---- refusal 2 of a record and of a mark cut short; refusal 1 of an unknown mark, as a mark's letters are capitals
+-- ---- refusal 2 of a record and of a mark cut short; refusal 1 of an unknown mark, as a mark's
+-- letters are capitals
 cut-in-the-mark : readAt (0x42 ∷ []) 0 ≡ stop (plain 2)
 unfolding readAt
 cut-in-the-mark = refl

@@ -1,5 +1,5 @@
--- Laws of reading: what is read at a cursor, by what stands there; and where a reading leaves the cursor: past a mark and at least one byte,
--- within the script. Assumes nothing.
+-- Laws of reading: what is read at a cursor, by what stands there; and where a reading leaves the
+-- cursor: past a mark and at least one byte, within the script. Assumes nothing.
 use Prim.Native.Nat.{ℕ, _+_, _-_, _≤_, _<_}
 use mathlib.Core.Path.{_≡_, refl, _∙_, subst}
 use mathlib.Core.Logic.{_⊎_, inl, inr}
@@ -46,8 +46,8 @@ module _ (script : List ℕ) (at : ℕ) where
         → readAt script at ≡ next (recordOf mark (drop (at + 2) script)) (at + 2 + sizeOf mark)
     whole-record mark found fits = after-mark ∙ rw (found, length-drop, le-ltb (length script - (at + 2)) (sizeOf mark) (omega arith))
 
--- ---- where a reading leaves the cursor: nothing is left at the end; it stops by 1 or 2; a record is its mark and at least one byte more, within
--- the script
+-- ---- where a reading leaves the cursor: nothing is left at the end; it stops by 1 or 2; a record
+-- is its mark and at least one byte more, within the script
 abbrev Leaves : List ℕ → ℕ → Read → Type 0
 Leaves script at end = length script ≤ at
 Leaves script at (stop r) = (r ≡ plain 1) ⊎ (r ≡ plain 2)

@@ -1,5 +1,5 @@
--- Laws of marks as numbers: a mark's two bytes make one number, the first worth 256 times the second, and the number tells the bytes.
--- Assumes nothing.
+-- Laws of marks as numbers: a mark's two bytes make one number, the first worth 256 times the
+-- second, and the number tells the bytes. Assumes nothing.
 use Prim.Native.Nat.{ℕ, _+_, _*_, _^_, _<_}
 use mathlib.Core.Path.{_≡_, refl}
 use mathlib.Core.Bool.{Bool, true, false, _&&_}

@@ -1,5 +1,6 @@
--- A script, record by record: a mark of two bytes, then the fields (R9.2, R9.3, R9.4). What is read at a cursor is a record with
--- the cursor after it, the end of the script, or a refusal that stops the reading. Definitions only.
+-- A script, record by record: a mark of two bytes, then the fields (R9.2, R9.3, R9.4). What is read
+-- at a cursor is a record with the cursor after it, the end of the script, or a refusal that stops
+-- the reading. Definitions only.
 use Prim.Native.Nat.{ℕ, _+_}
 use Prim.Native.Char.{code as byte}
 use Prim.Native.String.{String, [] as nothing, _∷_ as _then_}
@@ -20,7 +21,8 @@ use Rattle.script.specs.declared.Record.the-variants.{Call as CallRecord
 use Rattle.script.specs.declared.Reading.{Reading}
 use Rattle.script.specs.declared.Reading.the-variants.{End, Stopped, Next}
 
--- what is read at a cursor: a record and the cursor after it, or the reason of a refusal that stops the reading
+-- what is read at a cursor: a record and the cursor after it, or the reason of a refusal that stops
+-- the reading
 pub data Read : Type 0 where
   end : Read
   stop : Reason → Read
@@ -61,7 +63,8 @@ sizeOf Drain = 2
 abbrev pub four : List ℕ → ℕ → List ℕ
 four fields i = getD fields i 0 ∷ getD fields (i + 1) 0 ∷ getD fields (i + 2) 0 ∷ getD fields (i + 3) 0 ∷ []
 
--- R9.2, R9.3, R9.4: the record that the fields make; a serial in it is a number, or the refusal that comes at its turn
+-- R9.2, R9.3, R9.4: the record that the fields make; a serial in it is a number, or the refusal
+-- that comes at its turn
 abbrev pub recordOf : Mark → List ℕ → Record
 recordOf PackedDeclare fields = DeclareRecord (packedOf (four fields 0))
 recordOf BinaryDeclare fields = DeclareRecord (binaryOf (four fields 0))

@@ -1,5 +1,6 @@
-// Reading a script (R9.2, R9.3, R9.4, R9.5): the record at a cursor, for every slice of bytes and every cursor. A record's serial is read in its form, and stands
-// in the record as a number or as the refusal that comes at the serial's turn, after those of the fields before it.
+// Reading a script (R9.2, R9.3, R9.4, R9.5): the record at a cursor, for every slice of bytes and
+// every cursor. A record's serial is read in its form, and stands in the record as a number or as
+// the refusal that comes at the serial's turn, after those of the fields before it.
 ghost use mathlib.Core.Path.{_≡_};
 ghost use Prim.Native.Nat.{_<_};
 ghost use mathlib.Core.List.{[], _∷_, reverse};
@@ -30,7 +31,8 @@ pub enum Lookup {
     Unknown,
 }
 
-// What a record asks: a call; a declaration, whose serial may be refused at its turn; the owner of a serial; a drain.
+// What a record asks: a call; a declaration, whose serial may be refused at its turn; the owner of
+// a serial; a drain.
 pub enum Record {
     Call(Call),
     Declare(Serial),
@@ -38,15 +40,16 @@ pub enum Record {
     Drain(u16),
 }
 
-// What is read at a cursor: nothing more, a record with the cursor after it, or why the reading stops.
+// What is read at a cursor: nothing more, a record with the cursor after it, or why the reading
+// stops.
 pub enum Reading {
     End,
     Stopped(Refusal),
     Next { record: Record, after: usize },
 }
 
-// The letters of each mark as one number, the first its high byte: the look-up is then a search among nine numbers, and not two tests for each
-// mark in turn.
+// The letters of each mark as one number, the first its high byte: the look-up is then a search
+// among nine numbers, and not two tests for each mark in turn.
 const BC: u16 = 0x4243;
 
 const BN: u16 = 0x424E;

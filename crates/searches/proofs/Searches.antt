@@ -1,5 +1,6 @@
--- What a search of so many nodes or messages comes to, turn by turn: the flag before the first turn, after one turn more, and when all are searched. The
--- flags are shut, so that a walk which holds one does not unfold it. Assumes nothing.
+-- What a search of so many nodes or messages comes to, turn by turn: the flag before the first
+-- turn, after one turn more, and when all are searched. The flags are shut, so that a walk which
+-- holds one does not unfold it. Assumes nothing.
 --     others, outs, notices        the flag of each search after i turns
 --     told             what is found, from the three flags
 use Prim.Native.Nat.{ℕ, _+_, _≤_, _<_}

@@ -1,5 +1,5 @@
--- No rules stand here: it is what a search of a network's arrays tells, for every network: of the nodes and messages before the counts, as many as
--- the arrays have. Definitions only.
+-- No rules stand here: it is what a search of a network's arrays tells, for every network: of the
+-- nodes and messages before the counts, as many as the arrays have. Definitions only.
 use Prim.Native.Nat.{ℕ}
 use mathlib.Core.Bool.{Bool, false, not, cond}
 use lib.ListN.{getD, take}

@@ -1,5 +1,7 @@
-// What only a search of a network's arrays tells, for every network, by value: whether a node has a key, whether some node is not out, and whether a
-// notice to a node waits. Counts past the arrays are cut. The crate `readings` does the same where a network lies, by the same definitions and tests.
+// What only a search of a network's arrays tells, for every network, by value: whether a node has a
+// key, whether some node is not out, and whether a notice to a node waits. Counts past the arrays
+// are cut. The crate `readings` does the same where a network lies, by the same definitions and
+// tests.
 ghost use mathlib.Core.Path.{_≡_};
 ghost use mathlib.Core.Bool.{not};
 ghost use Prim.Native.Nat.{_≤_};
@@ -17,8 +19,8 @@ use node::Node;
 use parts::Message;
 use protocol::Order;
 
-// What is found: whether a node has the key that is declared, whether some node is not out, and whether a notice to a node waits. What an order
-// does not ask is false.
+// What is found: whether a node has the key that is declared, whether some node is not out, and
+// whether a notice to a node waits. What an order does not ask is false.
 pub struct Found {
     pub taken: bool,
     pub standing: bool,

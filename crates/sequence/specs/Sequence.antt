@@ -1,5 +1,5 @@
--- R1.2, sequence numbers (paper 01: left and right numbers). They are made, compared and advanced by these definitions
--- alone; what follows from them is in `proofs/Laws.antt`. Definitions only.
+-- R1.2, sequence numbers (paper 01: left and right numbers). They are made, compared and advanced
+-- by these definitions alone; what follows from them is in `proofs/Laws.antt`. Definitions only.
 use Prim.Native.Nat.{ℕ, _+_}
 use mathlib.Core.Bool.{Bool, cond}
 use lib.Dec.{ltb, leb, eqb}

@@ -1,4 +1,5 @@
--- Laws of serials: what an answer says fixes the answer, and is 3 or 4 by its rule; a serial that is read is in range. Assumes nothing.
+-- Laws of serials: what an answer says fixes the answer, and is 3 or 4 by its rule; a serial that
+-- is read is in range. Assumes nothing.
 use mathlib.Core.Path.{_≡_, refl, sym, ap, _∙_}
 use mathlib.Core.Bool.{Bool, true, false, not, cond}
 use mathlib.Core.List.{List, [], _∷_, reverse}

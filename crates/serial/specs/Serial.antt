@@ -1,5 +1,5 @@
--- Serials, and the two forms that a script has them in (R1.1, R9.4). What is read is a value, or which of the refusals 3
--- and 4 comes at the serial's turn. Definitions only.
+-- Serials, and the two forms that a script has them in (R1.1, R9.4). What is read is a value, or
+-- which of the refusals 3 and 4 comes at the serial's turn. Definitions only.
 use Prim.Native.Nat.{ℕ, _+_, _*_, _/_, _%_, _^_}
 use mathlib.Core.Bool.{Bool, true, _&&_, cond}
 use mathlib.Core.List.{List, [], _∷_, reverse}

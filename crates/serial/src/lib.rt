@@ -1,5 +1,6 @@
-// A cell's serial (R1.1), from each of the forms that reach us: four bytes of packed BCD or of binary (R9.4), a number handed in.
-// Each reader is total: it answers the serial, or what is wrong with it, for every input.
+// A cell's serial (R1.1), from each of the forms that reach us: four bytes of packed BCD or of
+// binary (R9.4), a number handed in. Each reader is total: it answers the serial, or what is wrong
+// with it, for every input.
 ghost use mathlib.Core.Path.{_≡_};
 ghost use Prim.Native.Nat.{_+_, _*_, _/_, _%_, _<_};
 ghost use mathlib.Core.List.{[], _∷_, reverse};

@@ -1,4 +1,5 @@
--- Types of plain data, and lists of them as a function's parameters are: what a walk, and whoever calls the function, needs to know of each.
+-- Types of plain data, and lists of them as a function's parameters are: what a walk, and whoever
+-- calls the function, needs to know of each.
 --     Data             how a value is spelled, that its relation makes what it owns, and that nothing is said of it at exit
 --     a-number, a-byte, a-flag, no-value, of-struct, of-enum       the types of the machine, and each that is declared
 --     word             the one machine value of a value.        spelled-out      what is shown of a value at its spelling holds of each that its type says is that value
@@ -62,7 +63,8 @@ told D x v is = ap only (D .tells x _ is)
 pub spelled-out : (D : Data) (P : Val → Type 1) (x : D .row .Denot) (v : Val) → Is (D .row) x (v ∷ []) → (Is (D .row) x (word D x ∷ []) → P (word D x)) → P v
 spelled-out D P x v is k = subst P (sym (told D x v is)) (k (subst (λ (u : Val). Is (D .row) x (u ∷ [])) (told D x v is) is))
 
--- a struct and an enum of plain data. Of each that is declared the last two are `λ x. tt` and `λ x f. refl`
+-- a struct and an enum of plain data. Of each that is declared the last two are `λ x. tt` and
+-- `λ x f. refl`
 abbrev pub of-struct : (T : Struct.Declared) (L : struct.Laws T) → Plains (Struct.fields T)
     → ((x : T .D) → Last (Struct.row T .exit yes) x) → ((x : T .D) (f : Last (Struct.row T .exit yes) x) → left (Struct.row T .exit yes) x f ≡ ftrue) → Data
 of-struct T L p last silent = record { row = Struct.row T; val = struct.vals T L; tells = struct.tells T L; makes = λ 𝓤 H A W. struct.makes T p 𝓤 H A; last = last; silent = silent }

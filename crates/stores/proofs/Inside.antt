@@ -1,4 +1,5 @@
--- One part of a struct that lies in memory, stored to and read where it lies: a field, or an element of a field that is an array of structs.
+-- One part of a struct that lies in memory, stored to and read where it lies: a field, or an
+-- element of a field that is an array of structs.
 --     Opens P τ b p v Q        what P says of memory is room for a τ at (b, p), with the way from v there to Q
 --     field-opens, elem-opens      so is a struct in memory at one field, and at one element of a field: Q is the struct in memory with the new part in it. Which
 --                      record that is, the `Cut` says: `put-at` for a field, and `cut-records` over it where the field is an array of structs
@@ -82,7 +83,8 @@ module _ {M : Type 1} (𝓤 : URA M) (H : Heap 𝓤) (A : Atoms 𝓤) where
   abbrev pub Shows : SProp 𝓤 → Share → Ty → ℕ → ℕ → Val → Type 1
   Shows P q τ b p v = ent 𝓤 P (sep 𝓤 (H .at q τ b p v) (wand 𝓤 (H .at q τ b p v) P))
 
-  -- element i of the list xs of a field that is an array of n; z is what `getD` gives past the end, which is never read
+  -- element i of the list xs of a field that is an array of n; z is what `getD` gives past the end,
+  -- which is never read
   module _ (W : Given 𝓤 H A) (q : Share) (R : RattleType) (h : R .Denot) (b o d : ℕ) (E : RattleType) (n : ℕ) (xs : List (E .Denot)) (i : ℕ) (z : E .Denot)
       (val : E .Denot → Val) (tells : Tells E (Is E) (λ e. val e ∷ [])) (one : One E) (single : Single (E .mir)) (mk : Makes 𝓤 H A E (Is E)) (within : i < n)
       (cut : Cut 𝓤 H A q R (Array E n) d h h xs xs (b, o)) where

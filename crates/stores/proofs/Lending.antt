@@ -1,4 +1,5 @@
--- A call that a network which lies in memory is lent to: in a local, or behind a reference whose borrow is open. It is one step of a walk.
+-- A call that a network which lies in memory is lent to: in a local, or behind a reference whose
+-- borrow is open. It is one step of a walk.
 --     Lends R Φ c n    a callee with the contract c can be lent the network n: what it is passed at a loan, that it may be called so, and that it returns some r of the type R and leaves some
 --                      network n′ with Φ r n′
 --     lends            so can any function of `Frame.antt`, where its arguments are of their types and its `requires` holds

@@ -1,4 +1,5 @@
--- The locals of a walk, each read and written by the entry of the context that its cell is. Over no type of this crate.
+-- The locals of a walk, each read and written by the entry of the context that its cell is. Over no
+-- type of this crate.
 --     var n refl       the operand that is a local: its cell is entry n
 --     sets n refl      an assignment to a local whose cell is room, at entry n.        resets       to one that holds a value already
 --     lands-in, lands-again        the same of a call's result
@@ -19,7 +20,8 @@ use types.Kit.{Given, Item, ‵, nth, put, Post, runs, lands, Step}
 use types.Run.{Opd, Rv, look, init, store, stop, from, load, bin, assigns, land}
 use denote.Index.{place as index, place-is}
 
--- the local i of an environment as it lies at an entry, with a value and as room; and that a value is of its type
+-- the local i of an environment as it lies at an entry, with a value and as room; and that a value
+-- is of its type
 module _ {M : Type 1} (𝓤 : URA M) (H : Heap 𝓤) (E : Env 𝓤 H) (i : ℕ) where
   abbrev pub Filled : Share → Val → Item 𝓤
   Filled s v = ‵ (fat s (spotOf 𝓤 H E i .0) (spotOf 𝓤 H E i .1) (spotOf 𝓤 H E i .2) v)

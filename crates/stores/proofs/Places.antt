@@ -1,4 +1,5 @@
--- A network that lies in memory, at this crate's types: what each store makes of it, and what can be read of it. Each is one line of `Inside.antt`.
+-- A network that lies in memory, at this crate's types: what each store makes of it, and what can
+-- be read of it. Each is one line of `Inside.antt`.
 --     lies b o n               the network n lies at (b, o), in a local or behind a reference: one entry of a walk's context
 --     known                    it is a network: its arrays have 32 and 64 places, its counts are bytes
 --     node-opens, message-opens, count-opens, waiting-opens        for `store-by`: the store of an element or of a field

@@ -1,4 +1,5 @@
--- Control rules that keep a walk in one line: no body, environment or context is written out. Over no type of this crate.
+-- Control rules that keep a walk in one line: no body, environment or context is written out. Over
+-- no type of this crate.
 --     switch-to        a `switch` whose tag is a numeral: the arm that runs, and the rest of the code behind it, as one sequence
 --     branch-to        an `if` whose outcome is known, the same. A `return` in an arm ends the walk of that arm
 --     joins            arms that come to the same but for two values, of which P is known, and then what they join in. The context there is said, as a

@@ -1,5 +1,7 @@
-// The arrays of a network where they lie, behind a reference: what the crate `access` writes by value, by the same definitions, with no array copied.
-// Each function is walked by hand, since the borrow checker does not cover a reference to a struct. What such walks share is proved here, for the crates on top of this one too.
+// The arrays of a network where they lie, behind a reference: what the crate `access` writes by
+// value, by the same definitions, with no array copied. Each function is walked by hand, since the
+// borrow checker does not cover a reference to a struct. What such walks share is proved here, for
+// the crates on top of this one too.
 ghost use mathlib.Core.Path.{_≡_};
 ghost use Prim.Native.Nat.{_+_, _<_, _≤_};
 ghost use lib.ListN.{length};

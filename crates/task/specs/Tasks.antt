@@ -1,5 +1,5 @@
--- No rules stand here: it is how the code takes a record of a script, or what could not be read, as a task. What a task comes to on a network is
--- said in the crate `engine`. Definitions only.
+-- No rules stand here: it is how the code takes a record of a script, or what could not be read, as
+-- a task. What a task comes to on a network is said in the crate `engine`. Definitions only.
 use Prim.Native.Nat.{ℕ}
 use mathlib.Core.Path.{_≡_}
 use Rattle.refusal.specs.declared.Refusal.{Refusal}

@@ -1,5 +1,6 @@
-// A record of a script as a task: what a network is asked, or what is only told. A serial that is refused at its turn has become its refusal where
-// nothing comes before it, and what cannot be read is told too, so that who executes a task has four cases.
+// A record of a script as a task: what a network is asked, or what is only told. A serial that is
+// refused at its turn has become its refusal where nothing comes before it, and what cannot be read
+// is told too, so that who executes a task has four cases.
 ghost use mathlib.Core.Path.{_≡_};
 ghost use lib.ListN.{length};
 ghost use Rattle.script.specs.Script.{readAt};

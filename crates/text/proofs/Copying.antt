@@ -1,5 +1,5 @@
--- Laws of a piece that is copied into a buffer byte by byte: each turn puts one byte more in place, and after the last the piece is pasted.
--- Assumes nothing.
+-- Laws of a piece that is copied into a buffer byte by byte: each turn puts one byte more in place,
+-- and after the last the piece is pasted. Assumes nothing.
 use Prim.Native.Nat.{ℕ, _+_, _≤_, _<_}
 use mathlib.Core.Path.{_≡_, ap, sym, _∙_}
 use mathlib.Core.List.{List}

@@ -1,5 +1,5 @@
--- Laws of numbers in decimal: the fewest digits that hold a number are its decimal, how many digits that has, and that they say the number.
--- Assumes nothing.
+-- Laws of numbers in decimal: the fewest digits that hold a number are its decimal, how many digits
+-- that has, and that they say the number. Assumes nothing.
 use Prim.Native.Nat.{ℕ, zero, suc, _+_, _-_, _*_, _/_, _%_, _^_, _≤_, _<_}
 use mathlib.Core.Path.{_≡_, refl, sym, ap, _∙_}
 use mathlib.Core.List.{List, [], _∷_, _++_}

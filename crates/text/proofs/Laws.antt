@@ -1,5 +1,6 @@
--- Laws of a piece that is put into a buffer: the buffer keeps its length; where the piece fits it follows what stood before its place; and
--- two pieces that are put one after the other are one piece, their run. Assumes nothing.
+-- Laws of a piece that is put into a buffer: the buffer keeps its length; where the piece fits it
+-- follows what stood before its place; and two pieces that are put one after the other are one
+-- piece, their run. Assumes nothing.
 use Prim.Native.Nat.{ℕ, _+_, _≤_, _<_}
 use mathlib.Core.Path.{_≡_, refl, sym, ap, _∙_}
 use mathlib.Core.List.{List, _++_, append-assoc}

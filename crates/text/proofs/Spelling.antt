@@ -1,5 +1,5 @@
--- Laws of a number that is spelled into a buffer from its last digit to its first: each turn puts one digit more in place, and after the last
--- the number's decimal is pasted. Assumes nothing.
+-- Laws of a number that is spelled into a buffer from its last digit to its first: each turn puts
+-- one digit more in place, and after the last the number's decimal is pasted. Assumes nothing.
 use Prim.Native.Nat.{ℕ, zero, suc, _+_, _-_, _/_, _%_, _^_, _≤_, _<_}
 use mathlib.Core.Path.{_≡_, refl, sym, ap, _∙_}
 use mathlib.Core.List.{List, [], _∷_, _++_, append-assoc}
@@ -17,7 +17,8 @@ length-digits : (k n : ℕ) → length (digits 10 k n) ≡ k
 length-digits zero n = refl
 length-digits (suc k) n = simp length-append (omega (arith, length-digits k (n / 10)))
 
--- ---- a byte that is stored behind the place where a piece is then pasted is the last of a piece one longer
+-- ---- a byte that is stored behind the place where a piece is then pasted is the last of a piece
+-- one longer
 drop-stored : (buffer : List ℕ) (i byte : ℕ) → i < length buffer → drop i (set buffer i byte) ≡ byte ∷ drop (suc i) buffer
 drop-stored buffer i byte inside =
     ap (drop i) (set-split buffer i byte inside)
@@ -32,7 +33,8 @@ store-before buffer at j piece byte its-length inside =
     (sym (append-snoc (take at buffer ++ piece) byte (drop (suc (at + j)) buffer))
     ∙ ap (λ (l : List ℕ). l ++ drop (suc (at + j)) buffer) (append-assoc (take at buffer) piece (byte ∷ [])))
 
--- ---- the k digits of n but for the first i, which hold the rest, are in place in a buffer that has room for all
+-- ---- the k digits of n but for the first i, which hold the rest, are in place in a buffer that
+-- has room for all
 pub record Spelled (start : List ℕ) (at n k : ℕ) (buffer : List ℕ) (i rest : ℕ) : Type 0 where
   pub room : at + k ≤ length start
   pub within : i ≤ k
@@ -57,7 +59,8 @@ one-more-spelled {at = at} {buffer = buffer} {j} {rest} spelled =
           ∙ spelled .to-come;
     }
 
--- ---- in the loop there are digits to come beside the first, which is put after it: the rest is below ten by then
+-- ---- in the loop there are digits to come beside the first, which is put after it: the rest is
+-- below ten by then
 pub record Spelling (start : List ℕ) (at n k : ℕ) (buffer : List ℕ) (i rest : ℕ) : Type 0 where
   pub spelled : Spelled start at n k buffer (suc i) rest
   pub low : rest < 10 ^ suc i

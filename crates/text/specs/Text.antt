@@ -16,7 +16,8 @@ ascii (c then word) = code c ∷ ascii word
 abbrev pub digit : ℕ → ℕ
 digit d = 48 + d
 
--- the digits of a number below 10 ^ k, the highest first, with no zero in front but that of zero itself
+-- the digits of a number below 10 ^ k, the highest first, with no zero in front but that of zero
+-- itself
 abbrev pub decimalBelow : ℕ → ℕ → List ℕ
 decimalBelow zero n = []
 decimalBelow (suc k) n = cond (ltb n 10) (digit n ∷ []) (decimalBelow k (n / 10) ++ digit (n % 10) ∷ [])

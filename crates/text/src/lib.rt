@@ -1,5 +1,5 @@
-// Text in a buffer: a piece of bytes, or a number in decimal, put from a place on. Where a piece does not fit nothing is written, so
-// no function asks anything of its caller.
+// Text in a buffer: a piece of bytes, or a number in decimal, put from a place on. Where a piece
+// does not fit nothing is written, so no function asks anything of its caller.
 ghost use mathlib.Core.Path.{_≡_};
 ghost use Prim.Native.Nat.{_+_};
 ghost use lib.Dec.{ltb};
@@ -62,7 +62,8 @@ fn digits_of(n: u32) -> usize
     }
 }
 
-// Puts a number in decimal, the last digit first; what is left for the first is below ten, and needs no division.
+// Puts a number in decimal, the last digit first; what is left for the first is below ten, and
+// needs no division.
 pub fn append_decimal(buffer: &mut [u8], at: usize, n: u32) -> usize
     ensures { λ r. ⌜ r ≡ placeAfter (now (buffer .entry)) at (decimal n) ⌝ }
     ensures { λ _. ⌜ now (buffer .exit) ≡ pasted (now (buffer .entry)) at (decimal n) ⌝ }

@@ -1,4 +1,5 @@
--- `decision::delivering` meets its contract: the change, and what is told of the step. Assumes nothing.
+-- `decision::delivering` meets its contract: the change, and what is told of the step. Assumes
+-- nothing.
 use borrow.Author.Needs.{needs}
 use Rattle.decision.proofs.delivering.Statement.{statement}
 use Rattle.decision.proofs.delivering.Tie as tie

@@ -1,4 +1,5 @@
--- `decision::has_room` meets its contract: a step posts two messages at most, so that the sum fits. Assumes nothing.
+-- `decision::has_room` meets its contract: a step posts two messages at most, so that the sum fits.
+-- Assumes nothing.
 use borrow.Author.Needs.{needs}
 use Rattle.decision.proofs.has_room.Statement.{statement}
 use Rattle.decision.proofs.has_room.Tie as tie

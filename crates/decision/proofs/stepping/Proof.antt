@@ -1,4 +1,5 @@
--- `decision::stepping` meets its contract: the change, and what is told of the step. Assumes nothing.
+-- `decision::stepping` meets its contract: the change, and what is told of the step. Assumes
+-- nothing.
 use borrow.Author.Needs.{needs}
 use Rattle.decision.proofs.stepping.Statement.{statement}
 use Rattle.decision.proofs.stepping.Tie as tie

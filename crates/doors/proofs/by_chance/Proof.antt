@@ -1,4 +1,5 @@
--- `doors::by_chance` is safe and ends: no count passes the number of networks drawn. Assumes nothing.
+-- `doors::by_chance` is safe and ends: no count passes the number of networks drawn. Assumes
+-- nothing.
 use borrow.Author.Needs.{needs}
 use Prim.Native.Nat.{_-_, _≤_}
 use Rattle.doors.proofs.by_chance.Statement.{statement}

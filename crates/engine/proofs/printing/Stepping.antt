@@ -1,5 +1,6 @@
--- A call of `step` on what is kept and a text that lie in memory which the caller has: each is lent for a lifetime that is made for the call, the
--- script beside them is passed at its own, and after the call both lie there again, one record further. Lending is stated once, over the row: the
+-- A call of `step` on what is kept and a text that lie in memory which the caller has: each is lent
+-- for a lifetime that is made for the call, the script beside them is passed at its own, and after
+-- the call both lie there again, one record further. Lending is stated once, over the row: the
 -- crate `stores` has it for a network alone.
 --     lends, back              a value of any row that lies in memory is lent for a new lifetime, and lies there again at the loan's last value
 --     lends-step, step-back    the two loans of a call of `step`, and what there is after it
@@ -116,7 +117,8 @@ module _ {M : Type 1} (𝓤 : URA M) (H : Heap 𝓤) (A : Atoms 𝓤) (W : Given
       → ent 𝓤 (sep 𝓤 (sem 𝓤 H A (Borrowed K.the-row l 0 j kept)) (sep 𝓤 (sem 𝓤 H A (Borrowed Text b o k (x .text))) (mean 𝓤 H A (Script 𝓤 κ q s)))) (Step 𝓤 H A at-mem run .pre (to-step j k))
   goes-step may is j k =
       qed W (‵ (Borrowed K.the-row l 0 j kept) ∷ ‵ (Borrowed Text b o k (x .text)) ∷ Script 𝓤 κ q s ∷ []) ∵ says ! may $ fsplit ! $ move ! (2 ∷ []) $ fsplit ! $ move ! (4 ∷ []) $ split ! $
-      -- [the script's token; the script; the text's token; the text; the token of what is kept; what is kept]
+      -- [the script's token; the script; the text's token; the text; the token of what is kept;
+      -- what is kept]
       nothing ! $ move ! (3 ∷ 0 ∷ []) $ join ! $ move ! (1 ∷ 0 ∷ []) $ join ! $ move ! (3 ∷ 0 ∷ []) $ join ! $ frame ! $
       had ! P.the-type P′.the-plain p _ is $ nothing ! $ move ! (1 ∷ 0 ∷ []) $ fjoin ! $ move ! (2 ∷ 0 ∷ []) $ fjoin ! $ move ! (1 ∷ 0 ∷ []) $ fjoin ! $ move ! (1 ∷ 0 ∷ []) $ fjoin ! $ done !
 
@@ -128,7 +130,8 @@ module _ {M : Type 1} (𝓤 : URA M) (H : Heap 𝓤) (A : Atoms 𝓤) (W : Given
       qed W (Both 𝓤 l b o x ∷ Script 𝓤 κ q s ∷ []) ∵ updating ! $ split ! $
       use1 W (later (some (λ (j : Loan). ‵ (Borrowed K.the-row l 0 j kept) ⊛ ‵ (Lent K.the-row l 0 j)))) (lends K.the-row l 0 𝓤 H A W kept) $ await ! tt $ pick ! (λ j. split ! $ move ! (2 ∷ []) $
       use1 W (later (some (λ (k : Loan). ‵ (Borrowed Text b o k (x .text)) ⊛ ‵ (Lent Text b o k)))) (lends Text b o 𝓤 H A W (x .text)) $ await ! tt $ pick ! (λ k. split ! $
-      -- [the text's reference; its lender's part; the reference to what is kept; its lender's part; the script]
+      -- [the text's reference; its lender's part; the reference to what is kept; its lender's part;
+      -- the script]
       move ! (4 ∷ []) $ split ! $ move ! (1 ∷ []) $ use1 W (‵ (behind κ s) ⊛ ‵ (behind κ s)) (shr-slice-copy 𝓤 H A W (named 0) κ u8 .twice s (slice-vals s)) $ split ! $ move ! (2 ∷ 0 ∷ []) $ join ! $
       at-once ! $ show ! (λ (j′ : Loan). ex 𝓤 (Ready j′)) j $ show ! (Ready j) k $ move ! (4 ∷ 2 ∷ 0 ∷ []) $ use3 W (raw (Step 𝓤 H A at-mem run .pre (to-step j k))) (goes-step may is j k) $ frame ! $
       move ! (0 ∷ 2 ∷ 1 ∷ []) $ done !))
@@ -145,7 +148,8 @@ module _ {M : Type 1} (𝓤 : URA M) (H : Heap 𝓤) (A : Atoms 𝓤) (W : Given
       fsplit ! $ move ! (1 ∷ []) $ fsplit ! $ drop ! $ fsplit ! $ move ! (4 ∷ []) $ seen ! P.the-row r (w ∷ []) (λ is.
       move ! (3 ∷ []) $ use1 W (‵ (flft (j .life ∷ []) fullShare) ⊛ ‵ (flft κ q) ⊛ ‵ (flft (k .life ∷ []) fullShare) ⊛ ‵ ftrue) (id⊢ 𝓤 _) $ split ! $ move ! (1 ∷ []) $ split3 ! $ move ! (7 ∷ []) $
       split3 ! $
-      -- [the script; the two lenders' parts; the script's token; the text's token; true; the token of what is kept; the text's last value; …; the last value of what is kept]
+      -- [the script; the two lenders' parts; the script's token; the text's token; true; the token
+      -- of what is kept; the text's last value; …; the last value of what is kept]
       move ! (6 ∷ 1 ∷ 9 ∷ []) $ use3 W (later (‵ (lies K.the-row l 0 (y .kept)))) (back K.the-row l 0 𝓤 H A W j (y .kept)) $ await ! tt $
       move ! (4 ∷ 2 ∷ 6 ∷ []) $ use3 W (later (‵ (lies Text b o (y .text)))) (back Text b o 𝓤 H A W k (y .text)) $ await ! tt $
       move ! (1 ∷ []) $ use1 W (given (KeptIs (y .kept)) (‵ (fat fullShare K′.mir l 0 (keptVal (y .kept))))) (lies-out 𝓤 H A W K.the-type K′.the-laws l 0 (y .kept)) $

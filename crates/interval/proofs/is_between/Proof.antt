@@ -1,4 +1,5 @@
--- `interval::is_between` meets its contract: its tests are those of the definition. Assumes nothing.
+-- `interval::is_between` meets its contract: its tests are those of the definition. Assumes
+-- nothing.
 use borrow.Author.Needs.{needs}
 use Rattle.interval.specs.Interval.{between}
 use Rattle.interval.proofs.is_between.Statement.{statement}

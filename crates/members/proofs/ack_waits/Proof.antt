@@ -1,5 +1,5 @@
--- `members::ack_waits` meets its contract: after i turns the flag says whether a SetRAck is among the first i messages. The measure is what
--- is left of them. Assumes nothing.
+-- `members::ack_waits` meets its contract: after i turns the flag says whether a SetRAck is among
+-- the first i messages. The measure is what is left of them. Assumes nothing.
 use Prim.Native.Nat.{_≤_, _<_, _-_}
 use mathlib.Core.Path.{_≡_, refl}
 use native.Mathlib.Omega.{arith}

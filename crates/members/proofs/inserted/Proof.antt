@@ -1,4 +1,5 @@
--- `members::inserted` meets its contract: the word is the one asked for, and its size is the number of its ones. Assumes nothing.
+-- `members::inserted` meets its contract: the word is the one asked for, and its size is the number
+-- of its ones. Assumes nothing.
 use borrow.Author.Needs.{needs}
 use Rattle.members.proofs.inserted.Statement.{statement}
 use Rattle.members.proofs.inserted.Tie as tie

@@ -1,5 +1,5 @@
--- `members::is_member` meets its contract: the node read is that of the number reduced, and the messages searched are those that the count cut
--- leaves. Assumes nothing.
+-- `members::is_member` meets its contract: the node read is that of the number reduced, and the
+-- messages searched are those that the count cut leaves. Assumes nothing.
 use borrow.Author.Needs.{needs}
 use Rattle.sequence.specs.Sequence.{firstSeq}
 use Rattle.protocol.specs.State.{queueLimit}

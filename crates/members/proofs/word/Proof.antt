@@ -1,5 +1,5 @@
--- `members::word` meets its contract: after i turns the word is that of the first i nodes. The measure is what is left of the nodes declared.
--- Assumes nothing.
+-- `members::word` meets its contract: after i turns the word is that of the first i nodes. The
+-- measure is what is left of the nodes declared. Assumes nothing.
 use Prim.Native.Nat.{_≤_, _<_, _-_}
 use mathlib.Core.Path.{_≡_, refl, sym, _∙_}
 use mathlib.Core.Logic.{⊎-elim}

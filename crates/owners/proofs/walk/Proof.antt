@@ -1,5 +1,5 @@
--- `owners::walk` meets its contract: from where the walk stands, with the hops left to make, the owner is the same as from its start. The
--- measure is the hops left. Assumes nothing.
+-- `owners::walk` meets its contract: from where the walk stands, with the hops left to make, the
+-- owner is the same as from its start. The measure is the hops left. Assumes nothing.
 use Prim.Native.Nat.{_≤_, _-_}
 use mathlib.Core.Path.{_≡_, refl, sym, ap, _∙_}
 use native.Mathlib.Nat.{sub-zero}

@@ -1,4 +1,5 @@
--- `printout::last_line` meets its contract: its two items are put one after the other where there is room. Assumes nothing.
+-- `printout::last_line` meets its contract: its two items are put one after the other where there
+-- is room. Assumes nothing.
 use mathlib.Core.Path.{refl}
 use Rattle.printout.proofs.Laws.{full, roomy, not-printed, printed-last, printed-keeps-length}
 use Rattle.printout.proofs.last_line.Statement.{statement}

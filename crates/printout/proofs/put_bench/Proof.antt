@@ -1,4 +1,5 @@
--- `printout::put_bench` meets its contract: the two items of a bench are put one after the other. Assumes nothing.
+-- `printout::put_bench` meets its contract: the two items of a bench are put one after the other.
+-- Assumes nothing.
 use mathlib.Core.Path.{refl}
 use Rattle.text.proofs.Laws.{put-keeps-length}
 use Rattle.printout.proofs.Laws.{put-pair, as-16-bits}

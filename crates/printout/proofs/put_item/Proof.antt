@@ -1,4 +1,5 @@
--- `printout::put_item` meets its contract: the word is put, and the number after it. Assumes nothing.
+-- `printout::put_item` meets its contract: the word is put, and the number after it. Assumes
+-- nothing.
 use Rattle.text.proofs.Laws.{put}
 use Rattle.printout.proofs.Laws.{item-keeps-length}
 use Rattle.printout.proofs.put_item.Statement.{statement}

@@ -1,4 +1,5 @@
--- `printout::put_last_item` meets its contract: the line end is put after the item. Assumes nothing.
+-- `printout::put_last_item` meets its contract: the line end is put after the item. Assumes
+-- nothing.
 use mathlib.Core.Path.{refl}
 use Rattle.text.proofs.Laws.{put}
 use Rattle.printout.proofs.Laws.{last-item-keeps-length}

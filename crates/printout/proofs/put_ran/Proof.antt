@@ -1,4 +1,5 @@
--- `printout::put_ran` meets its contract: the two items of a run are put one after the other. Assumes nothing.
+-- `printout::put_ran` meets its contract: the two items of a run are put one after the other.
+-- Assumes nothing.
 use mathlib.Core.Path.{refl}
 use Rattle.text.proofs.Laws.{put-keeps-length}
 use Rattle.printout.proofs.Laws.{put-pair, as-32-bits}

@@ -1,4 +1,5 @@
--- `printout::refusal_line` meets its contract: the ordinal is put and an item after it, where there is room. Assumes nothing.
+-- `printout::refusal_line` meets its contract: the ordinal is put and an item after it, where there
+-- is room. Assumes nothing.
 use mathlib.Core.Path.{refl}
 use borrow.Author.Needs.{needs}
 use Rattle.text.proofs.Laws.{put}

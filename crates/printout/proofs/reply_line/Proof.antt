@@ -1,4 +1,5 @@
--- `printout::reply_line` meets its contract: the ordinal is put and what follows it, where there is room for the longest. Assumes nothing.
+-- `printout::reply_line` meets its contract: the ordinal is put and what follows it, where there is
+-- room for the longest. Assumes nothing.
 use Rattle.text.proofs.Laws.{put}
 use Rattle.printout.proofs.Laws.{full, roomy, not-printed, after-ordinal, printed-line, printed-keeps-length}
 use Rattle.printout.proofs.reply_line.Statement.{statement}

@@ -1,4 +1,5 @@
--- `progress::leave_record` meets its contract: either way the line is that of the answer. Assumes nothing.
+-- `progress::leave_record` meets its contract: either way the line is that of the answer. Assumes
+-- nothing.
 use mathlib.Core.Path.{_≡_, refl, sym, ap, subst, _∙_}
 use native.Mathlib.Omega.{arith}
 use borrow.Author.Needs.{needs}

@@ -1,5 +1,6 @@
--- `readings::find` meets its contract: a walk of its MIR, by hand, with an arm for each kind of order. Each search is a call that the network is lent
--- to, and leaves it as it is. Assumes nothing.
+-- `readings::find` meets its contract: a walk of its MIR, by hand, with an arm for each kind of
+-- order. Each search is a call that the network is lent to, and leaves it as it is. Assumes
+-- nothing.
 use Prim.Native.Nat.{ℕ, _<_, _^_}
 use mathlib.Core.Path.{_≡_, refl, sym, subst, _∙_}
 use mathlib.Core.Bool.{false}
@@ -111,7 +112,8 @@ module _ {M : Type 1} (𝓤 : URA M) (H : Heap 𝓤) (A : Atoms 𝓤) (W : Given
       pass1 ! (init ! 26 refl (tt, tt)) $ pass1 ! (init ! 24 refl (enum.lawful order.the-type order-laws.the-laws 𝓤 H A W tt .typed c _ c-is .0)) $ pass0 ! $
       move ! (30 ∷ 31 ∷ 32 ∷ []) $
       open-ref ! tt (mem net.the-row) {x = n} {b = b} {o = o} $
-      -- [the network; the open borrow; what is observed; the right to change it; _14 to _0]. Each arm comes to what is found in _10, its own locals forgotten
+      -- [the network; the open borrow; what is observed; the right to change it; _14 to _0]. Each
+      -- arm comes to what is found in _10, its own locals forgotten
       joins ! (λ (r : Found) (m : Network). FoundIs r × Φ r m)
       (λ Γ r m. put 𝓤 H A 0 (‵ (lies b o m)) (put 𝓤 H A 12 (‵ (fat fullShare found-laws.mir l₁₀ 0 (word a-find r))) (put 𝓤 H A 28 (‵ (froom order-laws.mir l₂ 0)) Γ))) (λ finish. by-order ! c
       -- Declare: _11 = addrOf *_1, _4 = key_is_taken(_11, _3)
@@ -127,7 +129,8 @@ module _ {M : Type 1} (𝓤 : URA M) (H : Heap 𝓤) (A : Atoms 𝓤) (W : Given
       by-name ! (told t false false) (λ r same. rewrite ! 12 (λ (s : Found). ‵ (fat fullShare found-laws.mir l₁₀ 0 (word a-find s))) same refl $
       forget ! 10 refl $ forget ! 24 refl $ forget ! 26 refl $ forget ! 28 refl $
       finish r m (subst FoundIs same (told-is t false false), (sym same ∙ declare-finds n key e (says .0), says .1)))))
-      -- Create: _12 = addrOf *_1, _6 = some_stands(_12), _13 = addrOf *_1, _7 = notice_waits(_13, _5)
+      -- Create: _12 = addrOf *_1, _6 = some_stands(_12), _13 = addrOf *_1, _7 = notice_waits(_13,
+      -- _5)
       (λ u e. rewrite ! 28 (λ (s : Order). ‵ (fat fullShare order-laws.mir l₂ 0 (word an-order s))) e refl $
       switch-to ! 𝓣 (tag-of ! 28 refl refl refl) tt $
       let are = enum.owed order.the-type order-laws.the-laws (Create u) _ (subst OrderIs e c-is) in

@@ -1,5 +1,6 @@
--- `readings::look` meets its contract: a walk of its MIR, by hand. Fields and nodes are read where they lie, at places that `%` brings into
--- range, and make up the sight; the network stays as it is. No array is copied. Assumes nothing.
+-- `readings::look` meets its contract: a walk of its MIR, by hand. Fields and nodes are read where
+-- they lie, at places that `%` brings into range, and make up the sight; the network stays as it
+-- is. No array is copied. Assumes nothing.
 use Prim.Native.Nat.{ℕ, _%_}
 use mathlib.Core.Path.{_≡_, refl}
 use mathlib.Core.List.{[], _∷_}
@@ -64,10 +65,12 @@ module _ {M : Type 1} (𝓤 : URA M) (H : Heap 𝓤) (A : Atoms 𝓤) (W : Given
       move ! (40 ∷ 41 ∷ 42 ∷ []) $
       open-ref ! tt (mem net.the-row) {x = n} {b = b} {o = o} $
       use1 W (given (Known n) (‵ (lies b o n))) (known 𝓤 H A W b o n) $ learn ! (λ k.
-      -- [the network; the open borrow; what is observed; the right to change it; _19 to _0]. _3 = (*_1).count, _4 = (*_1).waiting
+      -- [the network; the open borrow; what is observed; the right to change it; _19 to _0]. _3 =
+      -- (*_1).count, _4 = (*_1).waiting
       sets ! 36 refl (of-opd ! (load ! (from ! (hop ! (look ! 40 refl) (fld ! {d = 512} refl (stop !)))) (look-by ! 0 fullShare (count-shows 𝓤 H A W b o n)))) (tt, record { fits = k .count }) $
       sets ! 34 refl (of-opd ! (load ! (from ! (hop ! (look ! 40 refl) (fld ! {d = 1026} refl (stop !)))) (look-by ! 0 fullShare (waiting-shows 𝓤 H A W b o n)))) (tt, record { fits = k .waiting }) $
-      -- _5 = _2.node % 32, _11 = _5 as usize, _12 = _11 * 16, _13 = addrOf (*_1).nodes, _14 = offset _13 _12, _15 = *_14, _6 = _15
+      -- _5 = _2.node % 32, _11 = _5 as usize, _12 = _11 * 16, _13 = addrOf (*_1).nodes, _14 =
+      -- offset _13 _12, _15 = *_14, _6 = _15
       reads-node ! b o n (s .node) (λ x node.
       sets ! 32 refl (bin ! (load ! (from ! (fld ! refl (stop !))) (look-in ! 38 (sub ! 0 refl (whole !)))) (lit ! tt) (lit< tt)) (tt, node .byte) $
       sets ! 20 refl (un ! (var ! 32 refl) (node .index)) (tt, node .index) $
@@ -76,7 +79,8 @@ module _ {M : Type 1} (𝓤 : URA M) (H : Heap 𝓤) (A : Atoms 𝓤) (W : Given
       offsets ! 14 refl 16 (s .node % 32) (var ! 16 refl) (var ! 18 refl) (tt, tt) $
       sets ! 12 refl (of-opd ! (load ! (from ! (hop ! (look ! 14 refl) (stop !))) (look-by ! 0 fullShare (node-seen 𝓤 H A W b o node)))) (node-typed 𝓤 H A W x (node .is)) $
       sets ! 30 refl (of-opd ! (var ! 12 refl)) (node-typed 𝓤 H A W x (node .is)) $
-      -- _7 = _2.left % 32, _11 = _7 as usize, _12 = _11 * 16, _16 = addrOf (*_1).nodes, _17 = offset _16 _12, _15 = *_17, _8 = _15
+      -- _7 = _2.left % 32, _11 = _7 as usize, _12 = _11 * 16, _16 = addrOf (*_1).nodes, _17 =
+      -- offset _16 _12, _15 = *_17, _8 = _15
       reads-node ! b o n (s .left) (λ y left.
       sets ! 28 refl (bin ! (load ! (from ! (fld ! refl (stop !))) (look-in ! 38 (sub ! 1 refl (whole !)))) (lit ! tt) (lit< tt)) (tt, left .byte) $
       resets ! 20 refl (un ! (var ! 28 refl) (left .index)) (tt, left .index) $
@@ -85,7 +89,8 @@ module _ {M : Type 1} (𝓤 : URA M) (H : Heap 𝓤) (A : Atoms 𝓤) (W : Given
       offsets ! 8 refl 16 (s .left % 32) (var ! 10 refl) (var ! 18 refl) (tt, tt) $
       resets ! 12 refl (of-opd ! (load ! (from ! (hop ! (look ! 8 refl) (stop !))) (look-by ! 0 fullShare (node-seen 𝓤 H A W b o left)))) (node-typed 𝓤 H A W y (left .is)) $
       sets ! 26 refl (of-opd ! (var ! 12 refl)) (node-typed 𝓤 H A W y (left .is)) $
-      -- _9 = _2.right % 32, _11 = _9 as usize, _12 = _11 * 16, _18 = addrOf (*_1).nodes, _19 = offset _18 _12, _15 = *_19, _10 = _15
+      -- _9 = _2.right % 32, _11 = _9 as usize, _12 = _11 * 16, _18 = addrOf (*_1).nodes, _19 =
+      -- offset _18 _12, _15 = *_19, _10 = _15
       reads-node ! b o n (s .right) (λ z right.
       sets ! 24 refl (bin ! (load ! (from ! (fld ! refl (stop !))) (look-in ! 38 (sub ! 2 refl (whole !)))) (lit ! tt) (lit< tt)) (tt, right .byte) $
       resets ! 20 refl (un ! (var ! 24 refl) (right .index)) (tt, right .index) $

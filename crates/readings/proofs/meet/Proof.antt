@@ -1,5 +1,6 @@
--- `readings::meet` meets its contract: a walk of its MIR, by hand. A message and the node that it is for are read where they lie, at places
--- that `%` brings into range, and make up the arrival; the network stays as it is. No array is copied. Assumes nothing.
+-- `readings::meet` meets its contract: a walk of its MIR, by hand. A message and the node that it
+-- is for are read where they lie, at places that `%` brings into range, and make up the arrival;
+-- the network stays as it is. No array is copied. Assumes nothing.
 use Prim.Native.Nat.{ℕ, _<_, _%_, _^_}
 use mathlib.Core.Path.{_≡_, refl}
 use mathlib.Core.List.{[], _∷_}
@@ -61,9 +62,11 @@ module _ {M : Type 1} (𝓤 : URA M) (H : Heap 𝓤) (A : Atoms 𝓤) (W : Given
       move ! (32 ∷ 33 ∷ 34 ∷ []) $
       open-ref ! tt (mem net.the-row) {x = n} {b = b} {o = o} $
       use1 W (given (Known n) (‵ (lies b o n))) (known 𝓤 H A W b o n) $ learn ! (λ k.
-      -- [the network; the open borrow; what is observed; the right to change it; _15 to _0]. _3 = (*_1).waiting
+      -- [the network; the open borrow; what is observed; the right to change it; _15 to _0]. _3 =
+      -- (*_1).waiting
       sets ! 28 refl (of-opd ! (load ! (from ! (hop ! (look ! 32 refl) (fld ! {d = 1026} refl (stop !)))) (look-by ! 0 fullShare (waiting-shows 𝓤 H A W b o n)))) (tt, record { fits = k .waiting }) $
-      -- _4 = _2 % 64, _8 = _4 as usize, _9 = _8 * 8, _10 = addrOf (*_1).messages, _11 = offset _10 _9, _12 = *_11, _5 = _12
+      -- _4 = _2 % 64, _8 = _4 as usize, _9 = _8 * 8, _10 = addrOf (*_1).messages, _11 = offset _10
+      -- _9, _12 = *_11, _5 = _12
       reads-message ! b o n (p) (λ m message.
       sets ! 26 refl (bin ! (var ! 30 refl) (lit ! tt) (lit< tt)) (tt, message .byte) $
       sets ! 18 refl (un ! (var ! 26 refl) (message .index)) (tt, message .index) $
@@ -72,7 +75,8 @@ module _ {M : Type 1} (𝓤 : URA M) (H : Heap 𝓤) (A : Atoms 𝓤) (W : Given
       offsets ! 12 refl 8 (p % 64) (var ! 14 refl) (var ! 16 refl) (tt, tt) $
       sets ! 10 refl (of-opd ! (load ! (from ! (hop ! (look ! 12 refl) (stop !))) (look-by ! 0 fullShare (message-seen 𝓤 H A W b o message)))) (message-typed 𝓤 H A W m (message .is)) $
       sets ! 24 refl (of-opd ! (var ! 10 refl)) (message-typed 𝓤 H A W m (message .is)) $
-      -- _6 = _5.to % 32, _8 = _6 as usize, _9 = _8 * 16, _13 = addrOf (*_1).nodes, _14 = offset _13 _9, _15 = *_14, _7 = _15
+      -- _6 = _5.to % 32, _8 = _6 as usize, _9 = _8 * 16, _13 = addrOf (*_1).nodes, _14 = offset _13
+      -- _9, _15 = *_14, _7 = _15
       reads-node ! b o n (m .to) (λ x node.
       sets ! 22 refl (bin ! (load ! (from ! (fld ! refl (stop !))) (look-in ! 24 (sub ! 1 refl (whole !)))) (lit ! tt) (lit< tt)) (tt, node .byte) $
       resets ! 18 refl (un ! (var ! 22 refl) (node .index)) (tt, node .index) $

@@ -1,5 +1,6 @@
--- `readings::some_stands` meets its contract: a walk of its MIR, by hand. The borrow stays open around the loop, which only reads: each node once, by a test of its status. No array is
--- copied. Assumes nothing.
+-- `readings::some_stands` meets its contract: a walk of its MIR, by hand. The borrow stays open
+-- around the loop, which only reads: each node once, by a test of its status. No array is copied.
+-- Assumes nothing.
 use Prim.Native.Nat.{ℕ, _+_, _-_, _<_, _≤_}
 use native.Mathlib.Omega.{arith}
 use mathlib.Core.Path.{_≡_, refl, _∙_}
@@ -89,7 +90,8 @@ module _ {M : Type 1} (𝓤 : URA M) (H : Heap 𝓤) (A : Atoms 𝓤) (W : Given
       move ! (24 ∷ 25 ∷ 26 ∷ []) $
       open-ref ! tt (mem net.the-row) {x = n} {b = b} {o = o} $
       use1 W (given (Known n) (‵ (lies b o n))) (known 𝓤 H A W b o n) $ learn ! (λ k.
-      -- [the network; the open borrow; what is observed; the right to change it; _11 to _0]. _2 = (*_1).count, _3 = least(_2, 32), _4 = true, _5 = 0
+      -- [the network; the open borrow; what is observed; the right to change it; _11 to _0]. _2 =
+      -- (*_1).count, _3 = least(_2, 32), _4 = true, _5 = 0
       sets ! 22 refl (of-opd ! (load ! (from ! (hop ! (look ! 24 refl) (fld ! {d = 512} refl (stop !)))) (look-by ! 0 fullShare (count-shows 𝓤 H A W b o n))))
       (tt, record { fits = k .count }) $
       calls-plain ! (fmOf 𝓤 H (W .laws) 𝓣) (a-byte ∷ a-byte ∷ []) (a-number w64) (least.clauses 𝓤 H A at-mem run) known-least (n .count, (32, tt)) ((refl, k .count), ((refl, lit< tt), tt))

@@ -1,5 +1,6 @@
--- `ring::read_script` meets its contract. The loop's invariant: the bytes read lie within the buffer, which keeps its length. The measure is the
--- number of turns that are left. Assumes nothing.
+-- `ring::read_script` meets its contract. The loop's invariant: the bytes read lie within the
+-- buffer, which keeps its length. The measure is the number of turns that are left. Assumes
+-- nothing.
 use Prim.Native.Nat.{_≤_}
 use borrow.Author.Needs.{needs}
 use mathlib.Core.Path.{_≡_, sym}

@@ -1,4 +1,5 @@
--- `rules::decide_delivery` meets its contract: the step is that of the node that the message is for. Assumes nothing.
+-- `rules::decide_delivery` meets its contract: the step is that of the node that the message is
+-- for. Assumes nothing.
 use borrow.Author.Needs.{needs}
 use Rattle.rules.proofs.decide_delivery.Statement.{statement}
 use Rattle.rules.proofs.decide_delivery.Tie as tie

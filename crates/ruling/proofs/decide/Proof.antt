@@ -1,4 +1,5 @@
--- `ruling::decide` meets its contract, by the call: what it looks at, and the decision from that. Assumes nothing.
+-- `ruling::decide` meets its contract, by the call: what it looks at, and the decision from that.
+-- Assumes nothing.
 use borrow.Author.Needs.{needs}
 use Rattle.ruling.proofs.RulingLaws.{order-decided, delivery-decided}
 use Rattle.ruling.proofs.decide.Statement.{statement}

@@ -1,4 +1,5 @@
--- `scenarios::line_end` meets its contract. The loop's invariant: the end is that of the text. Assumes nothing.
+-- `scenarios::line_end` meets its contract. The loop's invariant: the end is that of the text.
+-- Assumes nothing.
 use Prim.Native.Nat.{_-_, _≤_}
 use native.Mathlib.Omega.{arith}
 use lib.ListN.{length}

@@ -1,4 +1,5 @@
--- `script::binary_at` meets its contract: the four bytes are those of the definition. Assumes nothing.
+-- `script::binary_at` meets its contract: the four bytes are those of the definition. Assumes
+-- nothing.
 use borrow.Author.Needs.{needs}
 use Rattle.script.proofs.binary_at.Statement.{statement}
 use Rattle.script.proofs.binary_at.Tie as tie

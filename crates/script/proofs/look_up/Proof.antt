@@ -1,5 +1,5 @@
--- `script::look_up` meets its contract: in each arm the number tells the letters, and the definition's table has their mark; any other number
--- is none of its marks. Assumes nothing.
+-- `script::look_up` meets its contract: in each arm the number tells the letters, and the
+-- definition's table has their mark; any other number is none of its marks. Assumes nothing.
 use Prim.Native.Nat.{ℕ, _+_, _*_, _^_, _<_}
 use mathlib.Core.Path.{_≡_}
 use native.Mathlib.Omega.{arith}

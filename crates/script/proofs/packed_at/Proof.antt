@@ -1,4 +1,5 @@
--- `script::packed_at` meets its contract: the four bytes are those of the definition. Assumes nothing.
+-- `script::packed_at` meets its contract: the four bytes are those of the definition. Assumes
+-- nothing.
 use borrow.Author.Needs.{needs}
 use Rattle.script.proofs.packed_at.Statement.{statement}
 use Rattle.script.proofs.packed_at.Tie as tie

@@ -1,4 +1,5 @@
--- `script::read` meets its contract: each return is one of the laws of what stands at the cursor. Assumes nothing.
+-- `script::read` meets its contract: each return is one of the laws of what stands at the cursor.
+-- Assumes nothing.
 use mathlib.Core.Path.{_≡_, sym, _∙_}
 use native.Mathlib.Omega.{arith}
 use borrow.Author.Needs.{needs}

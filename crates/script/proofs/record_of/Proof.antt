@@ -1,5 +1,5 @@
--- `script::record_of` meets its contract: in each arm the match says which mark it is, and its fields are those of the definition.
--- Assumes nothing.
+-- `script::record_of` meets its contract: in each arm the match says which mark it is, and its
+-- fields are those of the definition. Assumes nothing.
 use borrow.Author.Needs.{needs}
 use Rattle.script.proofs.record_of.Statement.{statement}
 use Rattle.script.proofs.record_of.Tie as tie

@@ -1,5 +1,5 @@
--- `searches::all_out` meets its contract: after i turns the flag is the test of the first i nodes. The measure is what is left of
--- them. Assumes nothing.
+-- `searches::all_out` meets its contract: after i turns the flag is the test of the first i nodes.
+-- The measure is what is left of them. Assumes nothing.
 use Prim.Native.Nat.{_≤_, _-_}
 use mathlib.Core.Path.{_≡_, refl}
 use native.Mathlib.Omega.{arith}

@@ -1,4 +1,5 @@
--- `searches::least` meets its contract: the branch says which of the two numbers is the lesser. Assumes nothing.
+-- `searches::least` meets its contract: the branch says which of the two numbers is the lesser.
+-- Assumes nothing.
 use borrow.Author.Tests.{le-leb, lt-leb}
 use Rattle.searches.proofs.least.Statement.{statement}
 use Rattle.searches.proofs.least.Tie as tie

@@ -1,5 +1,5 @@
--- `searches::notice_waits` meets its contract: after i turns the flag says whether a notice is among the first i messages. The
--- measure is what is left of them. Assumes nothing.
+-- `searches::notice_waits` meets its contract: after i turns the flag says whether a notice is
+-- among the first i messages. The measure is what is left of them. Assumes nothing.
 use Prim.Native.Nat.{_≤_, _<_, _-_}
 use mathlib.Core.Path.{_≡_, refl}
 use native.Mathlib.Omega.{arith}

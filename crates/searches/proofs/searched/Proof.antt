@@ -1,5 +1,5 @@
--- `searches::searched` meets its contract, by the order: the counts are within the arrays (`within`), and each search says what it finds.
--- Assumes nothing.
+-- `searches::searched` meets its contract, by the order: the counts are within the arrays
+-- (`within`), and each search says what it finds. Assumes nothing.
 use Prim.Native.Nat.{ℕ, _≤_}
 use mathlib.Core.Path.{_≡_}
 use mathlib.Core.Bool.{Bool, false, not}

@@ -1,4 +1,5 @@
--- `serial::all_packed` meets its contract: the four tests of two digits each are the test of the eight. Assumes nothing.
+-- `serial::all_packed` meets its contract: the four tests of two digits each are the test of the
+-- eight. Assumes nothing.
 use mathlib.Core.Bool.{and-assoc}
 use Rattle.serial.proofs.all_packed.Statement.{statement}
 use Rattle.serial.proofs.all_packed.Tie as tie

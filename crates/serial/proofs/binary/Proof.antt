@@ -1,4 +1,5 @@
--- `serial::binary` meets its contract: the value is the definition's, and `handed` tests it. Assumes nothing.
+-- `serial::binary` meets its contract: the value is the definition's, and `handed` tests it.
+-- Assumes nothing.
 use Rattle.serial.proofs.binary.Statement.{statement}
 use Rattle.serial.proofs.binary.Tie as tie
 

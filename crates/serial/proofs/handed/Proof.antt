@@ -1,4 +1,5 @@
--- `serial::handed` meets its contract: the branch says whether the rule of refusal 4 holds. Assumes nothing.
+-- `serial::handed` meets its contract: the branch says whether the rule of refusal 4 holds. Assumes
+-- nothing.
 use mathlib.Core.Path.{_∙_, sym}
 use borrow.Author.Needs.{needs}
 use Rattle.serial.proofs.handed.Statement.{statement}

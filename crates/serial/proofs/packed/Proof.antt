@@ -1,4 +1,5 @@
--- `serial::packed` meets its contract: the branch says whether the rule of refusal 3 holds. Assumes nothing.
+-- `serial::packed` meets its contract: the branch says whether the rule of refusal 3 holds. Assumes
+-- nothing.
 use mathlib.Core.Path.{_∙_, sym}
 use Rattle.serial.proofs.packed.Statement.{statement}
 use Rattle.serial.proofs.packed.Tie as tie

@@ -1,4 +1,5 @@
--- `stores::add_node` meets its contract: a walk of its MIR, by hand. A field is read, an element and the field are stored. Assumes nothing.
+-- `stores::add_node` meets its contract: a walk of its MIR, by hand. A field is read, an element
+-- and the field are stored. Assumes nothing.
 use Prim.Native.Nat.{ℕ, _+_, _<_}
 use native.Mathlib.Omega.{arith}
 use mathlib.Core.Path.{_≡_, refl}
@@ -56,7 +57,8 @@ module _ {M : Type 1} (𝓤 : URA M) (H : Heap 𝓤) (A : Atoms 𝓤) (W : Given
       pass1 ! (init ! 14 refl (tt, tt)) $ pass1 ! (init ! 12 refl (node-typed 𝓤 H A W x x-is)) $ pass0 ! $
       move ! (18 ∷ 19 ∷ 20 ∷ []) $
       open-ref ! tt (mem net.the-row) {x = n} {b = b} {o = o} $
-      -- [the network; the open borrow; what is observed; the right to change it; _8 to _0]. _3 = (*_1).count
+      -- [the network; the open borrow; what is observed; the right to change it; _8 to _0]. _3 =
+      -- (*_1).count
       sets ! 14 refl (of-opd ! (load ! (from ! (hop ! (look ! 18 refl) (fld ! {d = 512} refl (stop !)))) (look-by ! 0 fullShare (count-shows 𝓤 H A W b o n))))
       (tt, record { fits = omega (arith, asks) }) $
       -- _4 = _3 as usize, _5 = _4 * 16, _6 = addrOf (*_1).nodes, _7 = offset _6 _5, *_7 = _2

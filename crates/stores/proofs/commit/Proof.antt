@@ -1,5 +1,6 @@
--- `stores::commit` meets its contract: a walk of its MIR, by hand. What `fitting` leaves of the change finds room (`Fitting.antt`), and the
--- walk goes by cases on it. The borrow is opened once, and the network is lent on from there to each function that is called. Assumes nothing.
+-- `stores::commit` meets its contract: a walk of its MIR, by hand. What `fitting` leaves of the
+-- change finds room (`Fitting.antt`), and the walk goes by cases on it. The borrow is opened once,
+-- and the network is lent on from there to each function that is called. Assumes nothing.
 use Prim.Native.Nat.{ℕ, _+_, _<_, _≤_, _^_}
 use mathlib.Core.Path.{_≡_, refl, sym, subst, _∙_}
 use mathlib.Core.Bool.{cond}
@@ -147,7 +148,8 @@ module _ {M : Type 1} (𝓤 : URA M) (H : Heap 𝓤) (A : Atoms 𝓤) (W : Given
       move ! (46 ∷ 47 ∷ 48 ∷ []) $
       open-ref ! tt (mem net.the-row) {x = n} {b = b} {o = o} $
       use1 W (given (Known n) (‵ (lies b o n))) (known 𝓤 H A W b o n) $ learn ! (λ k.
-      -- [the network; the open borrow; what is observed; the right to change it; _22 to _0]. _3 = (*_1).count, _4 = (*_1).waiting
+      -- [the network; the open borrow; what is observed; the right to change it; _22 to _0]. _3 =
+      -- (*_1).count, _4 = (*_1).waiting
       sets ! 42 refl (of-opd ! (load ! (from ! (hop ! (look ! 46 refl) (fld ! {d = 512} refl (stop !)))) (look-by ! 0 fullShare (count-shows 𝓤 H A W b o n))))
       (tt, record { fits = k .count }) $
       sets ! 40 refl (of-opd ! (load ! (from ! (hop ! (look ! 46 refl) (fld ! {d = 1026} refl (stop !)))) (look-by ! 0 fullShare (waiting-shows 𝓤 H A W b o n))))

@@ -1,4 +1,5 @@
--- `stores::place_node` meets its contract: a walk of its MIR, by hand. One element of a field is stored where it lies. Assumes nothing.
+-- `stores::place_node` meets its contract: a walk of its MIR, by hand. One element of a field is
+-- stored where it lies. Assumes nothing.
 use Prim.Native.Nat.{ℕ, _<_, _^_}
 use native.Mathlib.Omega.{arith}
 use mathlib.Core.Path.{_≡_, refl}
@@ -54,14 +55,16 @@ module _ {M : Type 1} (𝓤 : URA M) (H : Heap 𝓤) (A : Atoms 𝓤) (W : Given
       enter ! (𝓣 .C) (𝓣 .Λ) code.function (vptr b o ∷ vint w8 i ∷ nodeVal x ∷ []) _ $
       alloc1 ! (λ l₀. alloc1 ! (λ l₁. alloc1 ! (λ l₂. alloc1 ! (λ l₃. alloc1 ! (λ l₄. alloc1 ! (λ l₅. alloc1 ! (λ l₆. alloc1 ! (λ l₇. alloc0 ! $ params1 ! $
       pass1 ! (init ! 12 refl (tt, tt)) $ pass1 ! (init ! 10 refl (tt, record { fits = i-fits })) $ pass1 ! (init ! 8 refl (node-typed 𝓤 H A W x x-is)) $ pass0 ! $
-      -- _4 = _2 as usize, _5 = _4 * 16, _6 = addrOf (*_1).nodes, _7 = offset _6 _5: the pointer is at element i
+      -- _4 = _2 as usize, _5 = _4 * 16, _6 = addrOf (*_1).nodes, _7 = offset _6 _5: the pointer is
+      -- at element i
       sets ! 6 refl (un ! (var ! 10 refl) (record { fits = omega (arith, i-fits) })) (tt, record { fits = omega (arith, i-fits) }) $
       sets ! 4 refl (bin ! (var ! 6 refl) (lit ! tt) (record { fits = omega (arith, i-fits) })) (tt, record { fits = omega (arith, i-fits) }) $
       sets ! 2 refl (addr ! (from ! (hop ! (look ! 12 refl) (fld ! {d = 0} refl (stop !))))) (tt, tt) $
       offsets ! 0 refl 16 i (var ! 2 refl) (var ! 4 refl) (tt, tt) $
       move ! (16 ∷ 17 ∷ 18 ∷ []) $
       open-ref ! tt (mem net.the-row) {x = n} {b = b} {o = o} $
-      -- [the network; the open borrow; what is observed; the right to change it; _7 to _0]. *_7 = _3
+      -- [the network; the open borrow; what is observed; the right to change it; _7 to _0]. *_7 =
+      -- _3
       assigns ! (of-opd ! (var ! 12 refl)) (from ! (hop ! (look ! 4 refl) (stop !)))
       (store-by ! 0 (‵ (lies b o n′)) (node-opens 𝓤 H A W b o n i x asks x-is) (node-typed 𝓤 H A W x x-is)) $
       close-ref ! tt (mem net.the-row) (n′) {b = b} {o = o} $

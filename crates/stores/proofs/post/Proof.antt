@@ -1,5 +1,5 @@
--- `stores::post` meets its contract: a walk of its MIR, by hand, that goes by cases on the posts before the `match`: each arm is then a
--- straight line. Assumes nothing.
+-- `stores::post` meets its contract: a walk of its MIR, by hand, that goes by cases on the posts
+-- before the `match`: each arm is then a straight line. Assumes nothing.
 use Prim.Native.Nat.{ℕ, _+_, _≤_}
 use native.Mathlib.Omega.{arith}
 use native.Mathlib.Nat.{add-zero}
@@ -71,7 +71,8 @@ module _ {M : Type 1} (𝓤 : URA M) (H : Heap 𝓤) (A : Atoms 𝓤) (W : Given
       move ! (40 ∷ 41 ∷ 42 ∷ []) $
       open-ref ! tt (mem net.the-row) {x = n} {b = b} {o = o} $
       use1 W (given (Known n) (‵ (lies b o n))) (known 𝓤 H A W b o n) $ learn ! (λ k.
-      -- [the network; the open borrow; what is observed; the right to change it; _19 to _0]. _3 = (*_1).waiting
+      -- [the network; the open borrow; what is observed; the right to change it; _19 to _0]. _3 =
+      -- (*_1).waiting
       sets ! 36 refl (of-opd ! (load ! (from ! (hop ! (look ! 40 refl) (fld ! {d = 1026} refl (stop !)))) (look-by ! 0 fullShare (waiting-shows 𝓤 H A W b o n))))
       (tt, record { fits = k .waiting }) $
       -- each arm comes to the same: the network n′, and its own locals forgotten

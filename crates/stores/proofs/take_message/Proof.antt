@@ -1,5 +1,6 @@
--- `stores::take_message` meets its contract: a walk of its MIR, by hand. The borrow stays open around the loop, whose invariant is the
--- network with the messages up to a place moved (`Shift.antt`). No network is copied. Assumes nothing.
+-- `stores::take_message` meets its contract: a walk of its MIR, by hand. The borrow stays open
+-- around the loop, whose invariant is the network with the messages up to a place moved
+-- (`Shift.antt`). No network is copied. Assumes nothing.
 use Prim.Native.Nat.{ℕ, _+_, _-_, _<_, _≤_, _^_}
 use native.Mathlib.Omega.{arith}
 use mathlib.Core.Path.{_≡_, refl, sym}
@@ -113,7 +114,8 @@ module _ {M : Type 1} (𝓤 : URA M) (H : Heap 𝓤) (A : Atoms 𝓤) (W : Given
       (λ held. rewrite ! 29 (λ (z : Bool). ‵ (fat fullShare tyBool l₈ 0 (vbool z))) held refl $ stays ! (var ! 29 refl) $
       let less : i < end = ltb-true i end held in
       use1 W (given (MessageIs (getD (moved i) (i + 1) vacantMessage)) (‵ (lies b o (at i)))) (message-is 𝓤 H A W b o (at i) (i + 1) (omega (arith, less, asks .1))) $ learn ! (λ m-is.
-      -- _9 = _5 + 1, _10 = _9 * 8, _11 = addrOf (*_1).messages, _12 = offset _11 _10, _13 = *_12, _6 = _13
+      -- _9 = _5 + 1, _10 = _9 * 8, _11 = addrOf (*_1).messages, _12 = offset _11 _10, _13 = *_12,
+      -- _6 = _13
       sets ! 27 refl (bin ! (var ! 1 refl) (lit ! tt) (record { fits = omega (arith, less, asks .1) })) (tt, record { fits = omega (arith, less, asks .1) }) $
       sets ! 25 refl (bin ! (var ! 27 refl) (lit ! tt) (record { fits = omega (arith, less, asks .1) })) (tt, record { fits = omega (arith, less, asks .1) }) $
       sets ! 23 refl (addr ! (from ! (hop ! (look ! 42 refl) (fld ! {d = 514} refl (stop !))))) (tt, tt) $
@@ -135,7 +137,8 @@ module _ {M : Type 1} (𝓤 : URA M) (H : Heap 𝓤) (A : Atoms 𝓤) (W : Given
       forget ! 29 refl $ forget ! 27 refl $ forget ! 25 refl $ forget ! 23 refl $ forget ! 21 refl $ forget ! 19 refl $ forget ! 33 refl $ forget ! 17 refl $ forget ! 15 refl $
       join ! $ use1 W (Inv l₅ (end - (i + 1))) (into l₅ (end - (i + 1)) (i + 1) (refl, omega (arith, f .1), omega (arith, less))) $ turns-on ! (Inv l₅) (end - (i + 1))
       (omega (arith, less, f .0))))
-      -- the loop is left: _16 = SetRNak, _17 = the vacant message, _18 = _4 * 8, _19 = addrOf (*_1).messages, _20 = offset _19 _18, *_20 = _17
+      -- the loop is left: _16 = SetRNak, _17 = the vacant message, _18 = _4 * 8, _19 = addrOf
+      -- (*_1).messages, _20 = offset _19 _18, *_20 = _17
       (λ failed. rewrite ! 29 (λ (z : Bool). ‵ (fat fullShare tyBool l₈ 0 (vbool z))) failed refl $ leaves-while ! steps.t-6 Post refl (var ! 29 refl) $
       let last : end ≤ i = ltb-false i end failed in
       sets ! 13 refl (agg ! (and-then ! (lit ! tt) (no-more !))) (tt, (record { fits = lit< tt }, tt)) $

@@ -1,5 +1,5 @@
--- `text::append` meets its contract. The loop's invariant: the first i bytes of the piece are in place, in a buffer with room for all.
--- Assumes nothing.
+-- `text::append` meets its contract. The loop's invariant: the first i bytes of the piece are in
+-- place, in a buffer with room for all. Assumes nothing.
 use Prim.Native.Nat.{_-_}
 use mathlib.Core.Path.{sym}
 use native.Mathlib.Omega.{arith}

@@ -1,5 +1,5 @@
--- `text::append_decimal` meets its contract. The loop's invariant: the digits are in place but for the first and i more, which hold the rest.
--- Assumes nothing.
+-- `text::append_decimal` meets its contract. The loop's invariant: the digits are in place but for
+-- the first and i more, which hold the rest. Assumes nothing.
 use native.Mathlib.Omega.{arith}
 use Rattle.text.proofs.Spelling.{Spelling, start-to-spell, go-on-spelling, end-spelling, rest-below-ten, place-to-spell, no-room-to-spell, all-spelled}
 use Rattle.text.proofs.append_decimal.Statement.{statement}

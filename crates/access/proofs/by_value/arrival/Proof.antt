@@ -1,5 +1,5 @@
--- `access::by_value::arrival` meets its contract: each number is within its array, so that what stands for the elements past its end does not
--- matter. Assumes nothing.
+-- `access::by_value::arrival` meets its contract: each number is within its array, so that what
+-- stands for the elements past its end does not matter. Assumes nothing.
 use Prim.Native.Nat.{_<_, _%_}
 use native.Mathlib.Omega.{arith}
 use native.Mathlib.Nat.{mod-lt}

@@ -1,5 +1,6 @@
--- `access::by_value::close` meets its contract: with each turn one more message has moved down (`shifted`), and at the end the last
--- place is made vacant. The measure is what is left to move. Assumes nothing.
+-- `access::by_value::close` meets its contract: with each turn one more message has moved down
+-- (`shifted`), and at the end the last place is made vacant. The measure is what is left to move.
+-- Assumes nothing.
 use Prim.Native.Nat.{_+_, _≤_, _-_}
 use mathlib.Core.Path.{_≡_, sym, ap, _∙_}
 use mathlib.Core.List.{List}

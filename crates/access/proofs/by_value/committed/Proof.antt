@@ -1,5 +1,5 @@
--- `access::by_value::committed` meets its contract: what `fitting` leaves of the change finds room, and is carried out (`Fitting.antt`). Assumes
--- nothing.
+-- `access::by_value::committed` meets its contract: what `fitting` leaves of the change finds room,
+-- and is carried out (`Fitting.antt`). Assumes nothing.
 use mathlib.Core.Path.{_≡_, sym, _∙_}
 use borrow.Author.Needs.{needs}
 use Rattle.access.specs.declared.Change.{Change}

@@ -1,5 +1,5 @@
--- `access::by_value::delivered` meets its contract: the gap is closed, the posts stand behind the messages that are left, and the node in its
--- place. Assumes nothing.
+-- `access::by_value::delivered` meets its contract: the gap is closed, the posts stand behind the
+-- messages that are left, and the node in its place. Assumes nothing.
 use native.Mathlib.Omega.{arith}
 use borrow.Author.Needs.{needs}
 use Rattle.parts.specs.Posts.{posted as listed}

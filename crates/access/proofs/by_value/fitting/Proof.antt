@@ -1,4 +1,5 @@
--- `access::by_value::fitting` meets its contract: the branch is on whether the change fits. Assumes nothing.
+-- `access::by_value::fitting` meets its contract: the branch is on whether the change fits. Assumes
+-- nothing.
 use mathlib.Core.Path.{sym, _∙_}
 use borrow.Author.Needs.{needs}
 use Rattle.access.proofs.by_value.fitting.Statement.{statement}

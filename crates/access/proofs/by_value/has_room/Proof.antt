@@ -1,4 +1,5 @@
--- `access::by_value::has_room` meets its contract: the posts are as many as `count` says, two at most. Assumes nothing.
+-- `access::by_value::has_room` meets its contract: the posts are as many as `count` says, two at
+-- most. Assumes nothing.
 use borrow.Author.Needs.{needs}
 use Rattle.access.proofs.by_value.has_room.Statement.{statement}
 use Rattle.access.proofs.by_value.has_room.Tie as tie

@@ -1,4 +1,5 @@
--- `access::by_value::has_room_after` meets its contract: the branch says whether a message stands at the place. Assumes nothing.
+-- `access::by_value::has_room_after` meets its contract: the branch says whether a message stands
+-- at the place. Assumes nothing.
 use mathlib.Core.Bool.{_&&_}
 use borrow.Author.Needs.{needs}
 use borrow.Author.Tests.{lt-ltb, le-ltb}

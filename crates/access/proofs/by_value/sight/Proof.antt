@@ -1,5 +1,5 @@
--- `access::by_value::sight` meets its contract: each number is within its array, and what stands for the elements past its end is the vacant node.
--- Assumes nothing.
+-- `access::by_value::sight` meets its contract: each number is within its array, and what stands
+-- for the elements past its end is the vacant node. Assumes nothing.
 use mathlib.Core.Path.{refl}
 use borrow.Author.Needs.{needs}
 use Rattle.sequence.specs.Sequence.{firstSeq}

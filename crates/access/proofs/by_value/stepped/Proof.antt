@@ -1,4 +1,5 @@
--- `access::by_value::stepped` meets its contract: the node in its place, the posts behind the messages that wait. Assumes nothing.
+-- `access::by_value::stepped` meets its contract: the node in its place, the posts behind the
+-- messages that wait. Assumes nothing.
 use borrow.Author.Needs.{needs}
 use Rattle.access.proofs.by_value.stepped.Statement.{statement}
 use Rattle.access.proofs.by_value.stepped.Tie as tie

@@ -1,4 +1,5 @@
--- `engine::calls::apply` meets its contract: 6 where the network is not well formed, and else the call past the test. Assumes nothing.
+-- `engine::calls::apply` meets its contract: 6 where the network is not well formed, and else the
+-- call past the test. Assumes nothing.
 use borrow.Author.Needs.{needs}
 use mathlib.Core.Path.{sym, ap, _∙_}
 use Rattle.engine.specs.Outcomes.{counted}

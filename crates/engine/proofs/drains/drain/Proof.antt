@@ -1,4 +1,5 @@
--- `engine::drains::drain` meets its contract: 6 where the network is not well formed, and else the drain past the test. Assumes nothing.
+-- `engine::drains::drain` meets its contract: 6 where the network is not well formed, and else the
+-- drain past the test. Assumes nothing.
 use borrow.Author.Needs.{needs}
 use mathlib.Core.Path.{sym, ap, _∙_}
 use Rattle.engine.specs.Outcomes.{counted}

@@ -1,5 +1,6 @@
--- `engine::in_place::act` meets its contract: a walk of its MIR, by hand. The borrow is opened once, and the network is lent on to `decide_in_place`
--- and to `commit`; what is decided, carried out, is what the rules say (`CallLaws`). Assumes nothing.
+-- `engine::in_place::act` meets its contract: a walk of its MIR, by hand. The borrow is opened
+-- once, and the network is lent on to `decide_in_place` and to `commit`; what is decided, carried
+-- out, is what the rules say (`CallLaws`). Assumes nothing.
 use Prim.Native.Nat.{ℕ}
 use mathlib.Core.Path.{_≡_, refl}
 use mathlib.Core.Bool.{true}
@@ -116,7 +117,8 @@ module _ {M : Type 1} (𝓤 : URA M) (H : Heap 𝓤) (A : Atoms 𝓤) (W : Given
       move ! (16 ∷ 17 ∷ 18 ∷ []) $
       open-ref ! tt (mem net.the-row) {x = n} {b = b} {o = o} $
       use1 W (given (Known n) (‵ (lies b o n))) (known 𝓤 H A W b o n) $ learn ! (λ k.
-      -- [the network; the open borrow; what is observed; the right to change it; _7 to _0]. _5 = addrOf *_1, _3 = decide_in_place(_5, _2), _4 = change_in(_3)
+      -- [the network; the open borrow; what is observed; the right to change it; _7 to _0]. _5 =
+      -- addrOf *_1, _3 = decide_in_place(_5, _2), _4 = change_in(_3)
       sets ! 8 refl (addr ! (from ! (hop ! (look ! 16 refl) (stop !)))) (tt, tt) $
       calls-giving ! b o (fmOf 𝓤 H (W .laws) 𝓣) (Decide 𝓤 H A at-mem run) known-decide a-decision (λ r m. (decided r ≡ decisionOn n c) × (m ≡ n)) n
       (decide-lends 𝓤 H A W at-mem run b o n c c-is)

@@ -1,5 +1,6 @@
--- `engine::in_place::deliver` meets its contract: a walk of its MIR, by hand, with a branch that returns early. Where the queue is not full the first place
--- is the lowest one (`DrainLaws`), and else `lowest` is handed a copy of the network. Assumes nothing.
+-- `engine::in_place::deliver` meets its contract: a walk of its MIR, by hand, with a branch that
+-- returns early. Where the queue is not full the first place is the lowest one (`DrainLaws`), and
+-- else `lowest` is handed a copy of the network. Assumes nothing.
 use Prim.Native.Nat.{ℕ, _<_}
 use mathlib.Core.Path.{_≡_, refl, sym, ap, _∙_}
 use mathlib.Core.Bool.{Bool, true, false}
@@ -109,7 +110,8 @@ module _ {M : Type 1} (𝓤 : URA M) (H : Heap 𝓤) (A : Atoms 𝓤) (W : Given
       move ! (20 ∷ 21 ∷ 22 ∷ []) $
       open-ref ! tt (mem net.the-row) {x = n} {b = b} {o = o} $
       use1 W (given (Known n) (‵ (lies b o n))) (known 𝓤 H A W b o n) $ learn ! (λ k.
-      -- [the network; the open borrow; what is observed; the right to change it; _9 to _0]. _2 = (*_1).waiting, _4 = _2 < 64
+      -- [the network; the open borrow; what is observed; the right to change it; _9 to _0]. _2 =
+      -- (*_1).waiting, _4 = _2 < 64
       sets ! 18 refl (of-opd ! (load ! (from ! (hop ! (look ! 20 refl) (fld ! {d = 1026} refl (stop !)))) (look-by ! 0 fullShare (waiting-shows 𝓤 H A W b o n))))
       (tt, record { fits = k .waiting }) $
       sets ! 14 refl (bin ! (var ! 18 refl) (lit ! tt) tt) (tt, tt) $

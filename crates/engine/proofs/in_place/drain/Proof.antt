@@ -1,5 +1,6 @@
--- `engine::in_place::drain` meets its contract: a walk of its MIR, by hand, with a loop that lends the network. After each turn the drain is underway
--- (`DrainLaws`), and where nothing waits, or the budget is spent, it is finished. The measure is what is left of the budget. Assumes nothing.
+-- `engine::in_place::drain` meets its contract: a walk of its MIR, by hand, with a loop that lends
+-- the network. After each turn the drain is underway (`DrainLaws`), and where nothing waits, or the
+-- budget is spent, it is finished. The measure is what is left of the budget. Assumes nothing.
 use Prim.Native.Nat.{ℕ, _+_, _-_, _%_, _^_, _<_}
 use native.Mathlib.Omega.{arith}
 use mathlib.Core.Path.{_≡_, refl, sym, _∙_}
@@ -146,7 +147,8 @@ module _ {M : Type 1} (𝓤 : URA M) (H : Heap 𝓤) (A : Atoms 𝓤) (W : Given
       move ! (16 ∷ 17 ∷ 18 ∷ []) $
       open-ref ! tt (mem net.the-row) {x = n} {b = b} {o = o} $
       use1 W (given (Known n) (‵ (lies b o n))) (known 𝓤 H A W b o n) $ learn ! (λ k.
-      -- [the network; the open borrow; what is observed; the right to change it; _7 to _0]. _3 = no_tally(), _4 = (*_1).waiting
+      -- [the network; the open borrow; what is observed; the right to change it; _7 to _0]. _3 =
+      -- no_tally(), _4 = (*_1).waiting
       calls-plain ! (fmOf 𝓤 H (W .laws) 𝓣) [] a-tally (no-tally.clauses 𝓤 H A at-mem run) known-none tt tt
       tt (id⊢ 𝓤 _) (λ r. r ≡ record { made = 0; posted = 0 }) (λ r zs. id⊢ 𝓤 _) (no-more !) (λ t₀ t₀-is fresh.
       lands-in ! 12 refl (tally-typed 𝓤 H A W t₀ t₀-is) $

@@ -1,5 +1,6 @@
--- `engine::in_place::execute` meets its contract: a walk of its MIR, by hand, by cases on the task. The borrow is opened once: two arms lend the
--- network on, a question reads it whole and hands it on by value, and a refusal leaves it alone. Assumes nothing.
+-- `engine::in_place::execute` meets its contract: a walk of its MIR, by hand, by cases on the task.
+-- The borrow is opened once: two arms lend the network on, a question reads it whole and hands it
+-- on by value, and a refusal leaves it alone. Assumes nothing.
 use Prim.Native.Nat.{ℕ, _<_, _^_}
 use mathlib.Core.Path.{_≡_, refl, sym, subst, _∙_}
 use mathlib.Core.Bool.{true}
@@ -87,7 +88,8 @@ use Rattle.engine.proofs.in_place.execute.Key.{name as #engine·in-plac
 use Rattle.engine.proofs.in_place.execute.Statement.{statement}
 use Rattle.engine.proofs.in_place.execute.Code as code
 
--- ---- the functions that it calls: each one's contract, and that those that change the network can be lent it
+-- ---- the functions that it calls: each one's contract, and that those that change the network can
+-- be lent it
 module _ {M : Type 1} (𝓤 : URA M) (H : Heap 𝓤) (A : Atoms 𝓤) (at-mem : Memory → SProp 𝓤) (run : Routine → Fun 𝓤) where
   abbrev Refuses : Contract 𝓤
   Refuses = tripleOf 𝓤 H A refuse.signature (refuse.spec 𝓤 H A at-mem run)
@@ -141,7 +143,8 @@ module _ {M : Type 1} (𝓤 : URA M) (H : Heap 𝓤) (A : Atoms 𝓤) (W : Given
       move ! (26 ∷ 27 ∷ 28 ∷ []) $
       open-ref ! tt (mem net.the-row) {x = n} {b = b} {o = o} $
       use1 W (given (Known n) (‵ (lies b o n))) (known 𝓤 H A W b o n) $ learn ! (λ k.
-      -- [the network; the open borrow; what is observed; the right to change it; _12 to _0]. Each arm comes to a report in _9; then _0 = _9, return
+      -- [the network; the open borrow; what is observed; the right to change it; _12 to _0]. Each
+      -- arm comes to a report in _9; then _0 = _9, return
       by-task ! t
       -- Refuse
       (λ x e. rewrite ! 24 (λ (s : Task). ‵ (fat fullShare task-laws.mir l₂ 0 (word a-task s))) e refl $ switch-to ! 𝓣 (tag-of ! 24 refl refl refl) tt $

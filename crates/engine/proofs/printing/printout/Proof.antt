@@ -1,5 +1,5 @@
--- `engine::printing::printout` meets its contract: the heading is put first, and then what follows it in a script within the limit or over it.
--- Assumes nothing.
+-- `engine::printing::printout` meets its contract: the heading is put first, and then what follows
+-- it in a script within the limit or over it. Assumes nothing.
 use mathlib.Core.Path.{refl, sym, _∙_}
 use native.Mathlib.Omega.{arith}
 use borrow.Author.Needs.{needs}

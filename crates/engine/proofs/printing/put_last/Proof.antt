@@ -1,4 +1,5 @@
--- `engine::printing::put_last` meets its contract: there is room for the last line. Assumes nothing.
+-- `engine::printing::put_last` meets its contract: there is room for the last line. Assumes
+-- nothing.
 use Rattle.printout.proofs.Laws.{printed-keeps-length}
 use Rattle.engine.proofs.StepOfScript.{line-there}
 use Rattle.engine.proofs.printing.put_last.Statement.{statement}

@@ -1,8 +1,9 @@
--- `engine::printing::run` meets its contract: a walk of its MIR, by hand. What is kept lies in the local _4, and each turn of the loop lends it to `step`
--- (`Stepping.antt`). The text's borrow is opened before the loop, so that the text's memory can be lent in each turn beside it, and is closed after
--- the loop, when the text is given to `finish` for good.
--- The invariant: what is kept and a text lie in memory, and the progress in _5, as far as the definition comes after as many records (`LoopLaws.antt`).
--- The variant is what is left of the script. Assumes nothing.
+-- `engine::printing::run` meets its contract: a walk of its MIR, by hand. What is kept lies in the
+-- local _4, and each turn of the loop lends it to `step` (`Stepping.antt`). The text's borrow is
+-- opened before the loop, so that the text's memory can be lent in each turn beside it, and is
+-- closed after the loop, when the text is given to `finish` for good. The invariant: what is kept
+-- and a text lie in memory, and the progress in _5, as far as the definition comes after as many
+-- records (`LoopLaws.antt`). The variant is what is left of the script. Assumes nothing.
 use mathlib.Core.Path.{_≡_, refl, subst}
 use mathlib.Core.Bool.{Bool}
 use Prim.Native.Nat.{ℕ, _+_, _-_, _<_, _≤_, _^_}
@@ -218,7 +219,8 @@ module _ {M : Type 1} (𝓤 : URA M) (H : Heap 𝓤) (A : Atoms 𝓤) (W : Given
       looped : (more : ℕ) → Seq (Go {0}) W (Inv more) (runs (𝓣 .C) (𝓣 .Λ) En steps.t-4 (atRet En Post))
       unfolding afterTurn
       looped more = first ! $ blocks ! $ loops ! 𝓣 _<_ (Nat·lt-wfRel .wf) Inv (λ more′. pick ! (λ x. learn ! (λ f. split ! $
-          -- [what is kept and the text; _5; the script; _1; _2; the open borrow; _0; _3; _6; _7; _8; _9; _10; _11; …]
+          -- [what is kept and the text; _5; the script; _1; _2; the open borrow; _0; _3; _6; _7;
+          -- _8; _9; _10; _11; …]
           let here : Turn script x = f .1 in
           let count : length script < 2 ^ 64 = omega (arith, size) in
           assigns ! (of-opd ! (load ! (from ! (fld ! refl (stop !))) (look-in ! 3 (sub ! 1 refl (whole !))))) (from ! (stop !)) (init ! 9 refl (tt, record { fits = count })) $
@@ -236,7 +238,8 @@ module _ {M : Type 1} (𝓤 : URA M) (H : Heap 𝓤) (A : Atoms 𝓤) (W : Given
           (and-then ! (load ! (from ! (stop !)) (look ! 3 refl)) (and-then ! (load ! (from ! (stop !)) (look ! 12 refl)) (and-then ! (load ! (from ! (stop !)) (look ! 2 refl)) (no-more !))))) (λ w.
           use2 W (later (some (λ (y : State). given (After script x w y) (Lie y ⊛ Reads)))) (step-back 𝓤 H A W at-mem run l₄ b o (κs .0) (qs .0) s x j k w) $ await ! tt $
           pick ! (λ y. learn ! (λ known. split ! $
-          -- [what is kept and the text; the script; _5; _1; _2; the open borrow; _0; _3; _6; _7; _8; _9; _10; _11; …]
+          -- [what is kept and the text; the script; _5; _1; _2; the open borrow; _0; _3; _6; _7;
+          -- _8; _9; _10; _11; …]
           land-last ! (from ! (stop !)) (store ! 2 refl (typed P.the-type P′.the-laws (y .progress) _ (known .1) 𝓤 H A W)) $
           rewrite ! 2 (λ (u : Val). ‵ (fat fullShare P′.mir l₅ 0 u)) (is-val P.the-type P′.the-laws (y .progress) _ (known .1)) refl $
           forget ! 9 refl $ forget ! 10 refl $ forget ! 11 refl $ forget ! 12 refl $ move ! (0 ∷ 2 ∷ []) $ join ! $
@@ -263,7 +266,8 @@ module _ {M : Type 1} (𝓤 : URA M) (H : Heap 𝓤) (A : Atoms 𝓤) (W : Given
           (and-then ! (load ! (from ! (stop !)) (look ! 13 refl)) (and-then ! (load ! (from ! (stop !)) (look ! 8 refl)) (and-then ! (load ! (from ! (stop !)) (look ! 2 refl)) (no-more !)))) (λ w.
           returned ! tt finish.ended (finish.clauses 𝓤 H A at-mem run) (to-finish x) w (λ r zs. Closed x r (zs .0)) (λ r zs. id⊢ 𝓤 _) (λ r zs e. fsplit ! $ move ! (1 ∷ []) $ drop ! $ move ! (2 ∷ []) $
           seen ! usize r (w ∷ []) (λ is.
-          -- [the text's last value; its token; _4; _5; the script; _1; _2; _0; _3; _6; _7; _8; _9; _10; _11; …]
+          -- [the text's last value; its token; _4; _5; the script; _1; _2; _0; _3; _6; _7; _8; _9;
+          -- _10; _11; …]
           land ! (from ! (stop !)) (init ! 7 refl (uint-lawful 𝓤 H A W w64 .typed r _ is .0)) $ returns ! (look ! 7 refl) $
           forget ! 7 refl $ move ! (7 ∷ 15 ∷ []) $ free1 ! $ forget ! 5 refl $ move ! (5 ∷ 14 ∷ []) $ free1 ! $ forget ! 5 refl $ move ! (5 ∷ 13 ∷ []) $ free1 ! $ move ! (5 ∷ 12 ∷ []) $ free1 ! $
           forget ! 2 refl $ move ! (2 ∷ 11 ∷ []) $ free1 ! $ forget ! 2 refl $ move ! (2 ∷ 10 ∷ []) $ free1 ! $ forget ! 3 refl $ move ! (3 ∷ 9 ∷ []) $ free1 ! $ forget ! 3 refl $ move ! (3 ∷ 8 ∷ []) $
@@ -287,7 +291,8 @@ module _ {M : Type 1} (𝓤 : URA M) (H : Heap 𝓤) (A : Atoms 𝓤) (W : Given
         pass1 ! (init ! 20 refl (shr-slice-lawful 𝓤 H A W (named 0) (κs .0) u8 .typed s _ is-s .0)) $ pass1 ! (init ! 18 refl (tt, tt)) $
         pass1 ! (init ! 16 refl (uint-lawful 𝓤 H A W w64 .typed start _ is-start .0)) $ pass0 ! $
         move ! (24 ∷ 25 ∷ 26 ∷ []) $ open-ref ! tt (mem Text) $ move ! (2 ∷ 3 ∷ []) $ join ! $ move ! (2 ∷ 0 ∷ []) $ join ! $
-        -- [the open borrow; the text; _11; …; _10; …; _9; …; _8; …; _7; …; _6; …; _5; …; _4; …; _3; …; _2; …; _1; …; _0; …; the script]
+        -- [the open borrow; the text; _11; …; _10; …; _9; …; _8; …; _7; …; _6; …; _5; …; _4; …; _3;
+        -- …; _2; …; _1; …; _0; …; the script]
         use0 W (raw (Begin 𝓤 H A at-mem run .pre ((tt, tt, tt, tt, tt), tt))) goes-begin $
         calls-at ! (fmOf 𝓤 H (W .laws) 𝓣) (Begin 𝓤 H A at-mem run) known-begin ((tt, tt, tt, tt, tt), tt) (no-more !) (λ v.
         returned ! tt nothing-kept.ended (nothing-kept.clauses 𝓤 H A at-mem run) ((tt, tt, tt, tt, tt), tt) v (λ k zs. k .network ≡ emptyNetwork) (λ k zs. id⊢ 𝓤 _) (λ k zs e. drop ! $ drop ! $
@@ -301,7 +306,8 @@ module _ {M : Type 1} (𝓤 : URA M) (H : Heap 𝓤) (A : Atoms 𝓤) (W : Given
         (init ! 14 refl (typed P.the-type P′.the-laws (begun start) _ is-begun 𝓤 H A W)) $
         forget ! 18 refl $
         move ! (16 ∷ []) $ use1 W (‵ (lies K.the-row l₄ 0 k)) (lies-in 𝓤 H A W K.the-type K′.the-laws l₄ 0 k K′.the-plain is-k) $ move ! (0 ∷ 2 ∷ []) $ join ! $
-        -- [what is kept and the text; the open borrow; _11; …; _10; …; _9; …; _8; …; _7; …; _6; …; _5; …; …; _3; …; _2; …; _1; …; _0; …; the script]
+        -- [what is kept and the text; the open borrow; _11; …; _10; …; _9; …; _8; …; _7; …; _6; …;
+        -- _5; …; …; _3; …; _2; …; _1; …; _0; …; the script]
         keep ! (0 ∷ 14 ∷ 25 ∷ 21 ∷ 19 ∷ 1 ∷ 23 ∷ 17 ∷ 12 ∷ 10 ∷ 8 ∷ 6 ∷ 4 ∷ 2 ∷ 24 ∷ 22 ∷ 20 ∷ 18 ∷ 16 ∷ 15 ∷ 13 ∷ 11 ∷ 9 ∷ 7 ∷ 5 ∷ 3 ∷ []) $ join ! $
         use1 W (some (λ (y : State). given (Facts l₀ l₁ l₂ l₃ l₄ l₅ l₆ l₇ l₈ l₉ l₁₀ l₁₁ (length script - 0) y) (Changes l₀ l₁ l₂ l₃ l₄ l₅ l₆ l₇ l₈ l₉ l₁₀ l₁₁ y)))
         (into l₀ l₁ l₂ l₃ l₄ l₅ l₆ l₇ l₈ l₉ l₁₀ l₁₁ (length script - 0) x₀

@@ -1,6 +1,8 @@
--- `engine::printing::step` meets its contract: a walk of its MIR, by hand. The borrow of what is kept is opened, and the network in it is lent to
--- `execute`, which does what is asked at the cursor; what is kept is then whole again around the next network, and the borrow is closed at it. The
--- script is read by `ask` at its own lifetime, and the text is given to `leave_record` as it came. Assumes nothing.
+-- `engine::printing::step` meets its contract: a walk of its MIR, by hand. The borrow of what is
+-- kept is opened, and the network in it is lent to `execute`, which does what is asked at the
+-- cursor; what is kept is then whole again around the next network, and the borrow is closed at it.
+-- The script is read by `ask` at its own lifetime, and the text is given to `leave_record` as it
+-- came. Assumes nothing.
 use mathlib.Core.Path.{refl}
 use Prim.Native.Nat.{ℕ, _+_}
 use mathlib.Core.List.{[], _∷_, List}
@@ -92,7 +94,8 @@ use Rattle.engine.proofs.printing.step.Statement as stated
 use Rattle.engine.proofs.printing.step.Code as code
 use Rattle.engine.proofs.printing.step.Code.Mir as steps
 
--- what is kept is still owned at the exit; the text has been given to `leave_record`, and of the rest nothing need be had
+-- what is kept is still owned at the exit; the text has been given to `leave_record`, and of the
+-- rest nothing need be had
 abbrev stayed : Stays (this.ended .signature .params) (this.ended .kept)
 stayed = (
   stay-ref (0 ∷ []) tt (plain (λ _. K.the-row)),
@@ -197,7 +200,8 @@ module _ {M : Type 1} (𝓤 : URA M) (H : Heap 𝓤) (A : Atoms 𝓤) (W : Given
         -- [what it owns; the token]
         move ! (1 ∷ 0 ∷ []) $ join ! $ frame ! $ nothing ! $ done !
 
-  -- ---- the exit: the borrow is closed at the next network, and `leave_record` has said the text's last value
+  -- ---- the exit: the borrow is closed at the next network, and `leave_record` has said the text's
+  -- last value
   abbrev Remains : Network → List ℕ → List (Item 𝓤)
   Remains m z = ‵ (fobs (x .name) (K.the-row .coded .code (record { network = m }))) ∷ ‵ (fbor (κs .0) (Body (mem K.the-row) b o (x .name))) ∷ ‵ (flft (κs .0) (qs .0))
       ∷ ‵ (fres (t .name) (Text .coded .code z)) ∷ Token ∷ ‵ (flft κ₁ q₁) ∷ []
@@ -260,7 +264,8 @@ module _ {M : Type 1} (𝓤 : URA M) (H : Heap 𝓤) (A : Atoms 𝓤) (W : Given
             → Seq (Go {0}) W (Executed a report m) (runs (𝓣 .C) (𝓣 .Λ) En steps.t-6 (atRet En Post))
         ends a report m is-a is-report did =
             let fields = LL.owed As.the-type As′.the-laws a _ is-a in
-            -- [the network; the script's token; what is around the network; the text; its token; _0; _1; …; _11; …]
+            -- [the network; the script's token; what is around the network; the text; its token;
+            -- _0; _1; …; _11; …]
             sets ! 14 refl (of-opd ! (load ! (from ! (fld ! refl (stop !))) (look-in ! 11 (sub ! 1 refl (whole !))))) (uint-lawful 𝓤 H A W w64 .typed (a .after) _ (fields .1 .0) .0) $
             sets ! 16 refl (addr ! (from ! (hop ! (look ! 8 refl) (stop !)))) (tt, tt) $
             -- `leave_record`
@@ -271,11 +276,13 @@ module _ {M : Type 1} (𝓤 : URA M) (H : Heap 𝓤) (A : Atoms 𝓤) (W : Given
             returned ! tt leave.ended (leave.clauses 𝓤 H A at-mem run) (to-leave (a .after) report) w (λ r zs. Leaves p (a .after) report (t .now) r (zs .0)) (λ r zs. id⊢ 𝓤 _) (λ r zs leaves.
             let left = leaves-so p r (a .after) m report (t .now) (zs .0) (may .2, may .3, may .4) (did .few) (did .quiet) leaves in
             fsplit ! $ move ! (1 ∷ []) $ drop ! $ move ! (2 ∷ []) $ seen ! P.the-row r (w ∷ []) (λ is-r.
-            -- [the text's last value; its token; the network; the script's token; what is around the network; _0; _1; …; _11; …]
+            -- [the text's last value; its token; the network; the script's token; what is around
+            -- the network; _0; _1; …; _11; …]
             lands-in ! 5 refl (typed P.the-type P′.the-laws r _ is-r 𝓤 H A W) $
             move ! (4 ∷ []) $ split ! $ move ! (4 ∷ 0 ∷ []) $ use2 W (‵ (lies K.the-row b o (record { network = m }))) (network-in 𝓤 H A W b o m) $
             move ! (1 ∷ []) $ split3 ! $ move ! (3 ∷ []) $ close-ref ! tt (mem K.the-row) (record { network = m }) $
-            -- [obs; the borrow; its token; the text's last value; its token; the script's token; _0; _1; …; _11; …]
+            -- [obs; the borrow; its token; the text's last value; its token; the script's token;
+            -- _0; _1; …; _11; …]
             returns ! (look ! 6 refl) $
             forget ! 6 refl $ move ! (6 ∷ 18 ∷ []) $ free1 ! $ move ! (6 ∷ 17 ∷ []) $ free1 ! $ move ! (6 ∷ 16 ∷ []) $ free1 ! $ forget ! 6 refl $ move ! (6 ∷ 15 ∷ []) $ free1 ! $ forget ! 6 refl $
             move ! (6 ∷ 14 ∷ []) $ free1 ! $ move ! (6 ∷ 13 ∷ []) $ free1 ! $ forget ! 6 refl $ move ! (6 ∷ 12 ∷ []) $ free1 ! $ move ! (6 ∷ 11 ∷ []) $ free1 ! $ forget ! 6 refl $ move ! (6 ∷ 10 ∷ []) $
@@ -285,7 +292,8 @@ module _ {M : Type 1} (𝓤 : URA M) (H : Heap 𝓤) (A : Atoms 𝓤) (W : Given
         begins : Seq (Go {0}) W Begins (runs (𝓣 .C) (𝓣 .Λ) En steps.t-1 (atRet En Post))
         begins =
             let is-at : Is usize (p .at) (vint w64 (p .at) ∷ []) = LL.owed P.the-type P′.the-laws p _ is-p .0 in
-            -- [the network; what is around it; the script; its token; the text; its token; _0; _1; …; _11; …]
+            -- [the network; what is around it; the script; its token; the text; its token; _0; _1;
+            -- …; _11; …]
             sets ! 11 refl (of-opd ! (load ! (from ! (fld ! refl (stop !))) (look-in ! 10 (sub ! 0 refl (whole !))))) (uint-lawful 𝓤 H A W w64 .typed (p .at) _ is-at .0) $
             -- `ask`
             move ! (2 ∷ 3 ∷ []) $ use2 W (raw (Ask 𝓤 H A at-mem run .pre to-ask)) (goes-ask is-at) $
@@ -294,7 +302,8 @@ module _ {M : Type 1} (𝓤 : URA M) (H : Heap 𝓤) (A : Atoms 𝓤) (W : Given
             drop ! $ use1 W (‵ (flft κ₁ q₁) ⊛ ‵ ftrue) (id⊢ 𝓤 _) $ split ! $ move ! (1 ∷ []) $ drop ! $ move ! (1 ∷ []) $ seen ! As.the-row a (v ∷ []) (λ is-v.
             let is-a : Is As.the-row a (askedVal a ∷ []) = at-val As.the-type As′.the-laws a _ is-v in
             let fields = LL.owed As.the-type As′.the-laws a _ is-a in
-            -- [the script's token; the network; what is around it; the text; its token; _0; _1; …; _11; …]
+            -- [the script's token; the network; what is around it; the text; its token; _0; _1; …;
+            -- _11; …]
             lands-in ! 11 refl (typed As.the-type As′.the-laws a _ is-v 𝓤 H A W) $ rewrite ! 11 (λ (u : Val). ‵ (fat fullShare As′.mir l₆ 0 u)) (is-val As.the-type As′.the-laws a _ is-v) refl $
             sets ! 12 refl (of-opd ! (load ! (from ! (fld ! refl (stop !))) (look-in ! 11 (sub ! 0 refl (whole !))))) (task-typed 𝓤 H A W (a .task) (fields .0)) $
             sets ! 15 refl (addr ! (from ! (hop ! (look ! 6 refl) (fld ! {τ = N′.mir} {d = 0} refl (stop !))))) (tt, tt) $
@@ -321,7 +330,9 @@ module _ {M : Type 1} (𝓤 : URA M) (H : Heap 𝓤) (A : Atoms 𝓤) (W : Given
         move ! (24 ∷ 25 ∷ 26 ∷ []) $ open-ref ! tt (mem K.the-row) $
         use1 W (‵ (lies N.the-row b (o + 0) n) ⊛ raw (Shell 𝓤 H b o)) (network-out 𝓤 H A W b o (x .now)) $ split ! $
         use1 W (given (Known n) (‵ (lies N.the-row b (o + 0) n))) (known 𝓤 H A W b (o + 0) n) $ learn ! (λ sure.
-        -- [the network; the rest of what is kept; the open borrow; obs; auth; _11; …; _10; …; _9; …; _8; …; _7; …; _6; …; _5; …; _4; …; _3; …; _2; …; _1; …; _0; …; the script; its token; the text; its token]
+        -- [the network; the rest of what is kept; the open borrow; obs; auth; _11; …; _10; …; _9;
+        -- …; _8; …; _7; …; _6; …; _5; …; _4; …; _3; …; _2; …; _1; …; _0; …; the script; its token;
+        -- the text; its token]
         move ! (3 ∷ 4 ∷ []) $ join ! $ move ! (3 ∷ 0 ∷ []) $ join ! $ move ! (2 ∷ 0 ∷ []) $ join ! $
         keep ! (1 ∷ 0 ∷ 26 ∷ 27 ∷ 28 ∷ 29 ∷ 24 ∷ 22 ∷ 20 ∷ 18 ∷ 16 ∷ 14 ∷ 12 ∷ 10 ∷ 8 ∷ 6 ∷ 4 ∷ 2 ∷ 25 ∷ 23 ∷ 21 ∷ 19 ∷ 17 ∷ 15 ∷ 13 ∷ 11 ∷ 9 ∷ 7 ∷ 5 ∷ 3 ∷ []) $
         begins l₀ l₁ l₂ l₃ l₄ l₅ l₆ l₇ l₈ l₉ l₁₀ l₁₁ (lengths _ _ (sure .is)))))))))))))))

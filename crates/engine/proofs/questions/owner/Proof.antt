@@ -1,4 +1,5 @@
--- `engine::questions::owner` meets its contract: 6 where the network is not well formed, and else the question. Assumes nothing.
+-- `engine::questions::owner` meets its contract: 6 where the network is not well formed, and else
+-- the question. Assumes nothing.
 use borrow.Author.Needs.{needs}
 use mathlib.Core.Path.{sym, _∙_}
 use Rattle.network.proofs.Lengths.{lengths}

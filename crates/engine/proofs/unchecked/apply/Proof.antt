@@ -1,4 +1,5 @@
--- `engine::unchecked::apply` meets its contract: the decision carried out is what the rules make of the lists. Assumes nothing.
+-- `engine::unchecked::apply` meets its contract: the decision carried out is what the rules make of
+-- the lists. Assumes nothing.
 use borrow.Author.Needs.{needs}
 use mathlib.Core.Path.{ap, _∙_}
 use Rattle.protocol.specs.Answer.{answered}

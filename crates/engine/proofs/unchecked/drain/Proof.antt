@@ -1,5 +1,6 @@
--- `engine::unchecked::drain` meets its contract: after each turn the drain is underway (`DrainLaws`), and where nothing waits, or the budget is
--- spent, it is finished. The measure is what is left of the budget. Assumes nothing.
+-- `engine::unchecked::drain` meets its contract: after each turn the drain is underway
+-- (`DrainLaws`), and where nothing waits, or the budget is spent, it is finished. The measure is
+-- what is left of the budget. Assumes nothing.
 use borrow.Author.Needs.{needs}
 use Prim.Native.Nat.{_-_}
 use mathlib.Core.Path.{sym, _∙_}

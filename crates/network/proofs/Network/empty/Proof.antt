@@ -1,4 +1,5 @@
--- `network::Network::empty` meets its contract: each place holds its blank, by computation. Assumes nothing.
+-- `network::Network::empty` meets its contract: each place holds its blank, by computation. Assumes
+-- nothing.
 use mathlib.Core.Path.{refl}
 use Rattle.sequence.specs.Sequence.{firstSeq}
 use Rattle.network.proofs.Network.empty.Statement.{statement}

@@ -1,5 +1,5 @@
--- `network::Network::is_well_formed` meets its contract: past the limits the network is not well formed, and within them each test is a
--- clause of the definition. Assumes nothing.
+-- `network::Network::is_well_formed` meets its contract: past the limits the network is not well
+-- formed, and within them each test is a clause of the definition. Assumes nothing.
 use Prim.Native.Nat.{_≤_}
 use mathlib.Core.Path.{_≡_, sym, _∙_}
 use mathlib.Core.Bool.{Bool, true, _&&_}

@@ -1,5 +1,5 @@
--- `network::shape::allowances` meets its contract: after i turns the first i allowances are those of the first i nodes. The measure is what
--- is left of the 32. Assumes nothing.
+-- `network::shape::allowances` meets its contract: after i turns the first i allowances are those
+-- of the first i nodes. The measure is what is left of the 32. Assumes nothing.
 use Prim.Native.Nat.{ℕ, _≤_, _<_, _-_}
 use mathlib.Core.Path.{_≡_, refl}
 use native.Mathlib.Omega.{arith}

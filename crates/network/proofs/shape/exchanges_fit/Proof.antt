@@ -1,5 +1,6 @@
--- `network::shape::exchanges_fit` meets its contract: after i turns the exchanges among the first i messages and what is left of the
--- allowances make up the allowances. The measure is what is left of the messages. Assumes nothing.
+-- `network::shape::exchanges_fit` meets its contract: after i turns the exchanges among the first i
+-- messages and what is left of the allowances make up the allowances. The measure is what is left
+-- of the messages. Assumes nothing.
 use Prim.Native.Nat.{ℕ, _≤_, _<_, _-_}
 use mathlib.Core.Path.{_≡_, sym, ap, _∙_}
 use mathlib.Core.Bool.{true}

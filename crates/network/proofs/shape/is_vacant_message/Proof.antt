@@ -1,4 +1,5 @@
--- `network::shape::is_vacant_message` meets its contract: each test is a clause of the definition. Assumes nothing.
+-- `network::shape::is_vacant_message` meets its contract: each test is a clause of the definition.
+-- Assumes nothing.
 use Rattle.network.proofs.shape.is_vacant_message.Statement.{statement}
 use Rattle.network.proofs.shape.is_vacant_message.Tie as tie
 

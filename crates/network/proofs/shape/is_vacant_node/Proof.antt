@@ -1,4 +1,5 @@
--- `network::shape::is_vacant_node` meets its contract: each test is a clause of the definition. Assumes nothing.
+-- `network::shape::is_vacant_node` meets its contract: each test is a clause of the definition.
+-- Assumes nothing.
 use Rattle.network.proofs.shape.is_vacant_node.Statement.{statement}
 use Rattle.network.proofs.shape.is_vacant_node.Tie as tie
 

@@ -1,5 +1,5 @@
--- `network::shape::key_is_new` meets its contract: after i turns the flag is the test of the first i keys. The measure is what is left of
--- n. Assumes nothing.
+-- `network::shape::key_is_new` meets its contract: after i turns the flag is the test of the first
+-- i keys. The measure is what is left of n. Assumes nothing.
 use Prim.Native.Nat.{_≤_, _-_}
 use mathlib.Core.Path.{_≡_, refl}
 use mathlib.Core.Bool.{not}

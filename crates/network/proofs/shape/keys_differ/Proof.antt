@@ -1,5 +1,5 @@
--- `network::shape::keys_differ` meets its contract: after i turns the flag says that each of the first i keys is new. The measure is what
--- is left of n. Assumes nothing.
+-- `network::shape::keys_differ` meets its contract: after i turns the flag says that each of the
+-- first i keys is new. The measure is what is left of n. Assumes nothing.
 use Prim.Native.Nat.{_≤_, _-_}
 use mathlib.Core.Path.{_≡_, refl}
 use mathlib.Core.Bool.{not}

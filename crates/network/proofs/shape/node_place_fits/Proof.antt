@@ -1,4 +1,5 @@
--- `network::shape::node_place_fits` meets its contract: the branch says which test it is. Assumes nothing.
+-- `network::shape::node_place_fits` meets its contract: the branch says which test it is. Assumes
+-- nothing.
 use Rattle.network.proofs.shape.node_place_fits.Statement.{statement}
 use Rattle.network.proofs.shape.node_place_fits.Tie as tie
 

@@ -1,5 +1,5 @@
--- `network::shape::node_places_fit` meets its contract: after i turns the flag is the test of the first i places. The measure is what is
--- left of the 32. Assumes nothing.
+-- `network::shape::node_places_fit` meets its contract: after i turns the flag is the test of the
+-- first i places. The measure is what is left of the 32. Assumes nothing.
 use Prim.Native.Nat.{_≤_, _-_}
 use mathlib.Core.Path.{_≡_, refl}
 use native.Mathlib.Omega.{arith}

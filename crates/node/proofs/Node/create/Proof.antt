@@ -1,4 +1,5 @@
--- `node::Node::create` meets its contract: each branch is a rule of the definition, in its order. Assumes nothing.
+-- `node::Node::create` meets its contract: each branch is a rule of the definition, in its order.
+-- Assumes nothing.
 use Rattle.node.specs.Actions.{createOf}
 use Rattle.node.proofs.Node.create.Statement.{statement}
 use Rattle.node.proofs.Node.create.Tie as tie

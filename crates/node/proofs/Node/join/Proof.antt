@@ -1,4 +1,5 @@
--- `node::Node::join` meets its contract: 6 by the test, and past it the join without one. Assumes nothing.
+-- `node::Node::join` meets its contract: 6 by the test, and past it the join without one. Assumes
+-- nothing.
 use mathlib.Core.Path.{_≡_, sym, _∙_}
 use mathlib.Core.Bool.{Bool, not, _&&_}
 use Rattle.node.specs.Actions.{joinOf}

@@ -1,4 +1,5 @@
--- `node::Node::join_unchecked` meets its contract: each branch is a rule of the definition, in its order. Assumes nothing.
+-- `node::Node::join_unchecked` meets its contract: each branch is a rule of the definition, in its
+-- order. Assumes nothing.
 use Rattle.node.specs.Actions.{joinUnchecked}
 use Rattle.node.proofs.Node.join_unchecked.Statement.{statement}
 use Rattle.node.proofs.Node.join_unchecked.Tie as tie

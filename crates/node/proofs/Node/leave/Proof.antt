@@ -1,4 +1,5 @@
--- `node::Node::leave` meets its contract: 6 by the test, and past it the leave without one. Assumes nothing.
+-- `node::Node::leave` meets its contract: 6 by the test, and past it the leave without one. Assumes
+-- nothing.
 use mathlib.Core.Path.{sym, ap, _∙_}
 use mathlib.Core.Bool.{not}
 use Rattle.node.specs.Actions.{leaveOf}

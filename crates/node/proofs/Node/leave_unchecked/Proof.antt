@@ -1,5 +1,5 @@
--- `node::Node::leave_unchecked` meets its contract: each branch is one of the definition, and past the tests the capped number is
--- the next one. Assumes nothing.
+-- `node::Node::leave_unchecked` meets its contract: each branch is one of the definition, and past
+-- the tests the capped number is the next one. Assumes nothing.
 use mathlib.Core.Path.{_∙_, sym, ap}
 use borrow.Author.Tests.{not-false}
 use Rattle.sequence.specs.Sequence.{hasNext, cappedNext}

@@ -1,4 +1,5 @@
--- `node::set_l::on_set_l` meets its contract: the branch is the test of the definition. Assumes nothing.
+-- `node::set_l::on_set_l` meets its contract: the branch is the test of the definition. Assumes
+-- nothing.
 use Rattle.node.proofs.set_l.on_set_l.Statement.{statement}
 use Rattle.node.proofs.set_l.on_set_l.Tie as tie
 

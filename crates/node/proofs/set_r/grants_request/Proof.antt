@@ -1,4 +1,5 @@
--- `node::set_r::grants_request` meets its contract: each test is a clause of the definition. Assumes nothing.
+-- `node::set_r::grants_request` meets its contract: each test is a clause of the definition.
+-- Assumes nothing.
 use Rattle.node.specs.Actions.{grants}
 use Rattle.node.proofs.set_r.grants_request.Statement.{statement}
 use Rattle.node.proofs.set_r.grants_request.Tie as tie

@@ -1,5 +1,5 @@
--- `node::set_r::on_set_r` meets its contract: the branches are those of the definition, and a join is granted only where the
--- capped number is the next one. Assumes nothing.
+-- `node::set_r::on_set_r` meets its contract: the branches are those of the definition, and a join
+-- is granted only where the capped number is the next one. Assumes nothing.
 use mathlib.Core.Path.{_∙_, sym, ap}
 use borrow.Author.Tests.{eq-eqb, ne-eqb, not-true, not-false}
 use Rattle.node.specs.Actions.{granting, relinked, setL, setRAck}

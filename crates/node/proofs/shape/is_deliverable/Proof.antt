@@ -1,4 +1,5 @@
--- `node::shape::is_deliverable` meets its contract: each test is a clause of the definition. Assumes nothing.
+-- `node::shape::is_deliverable` meets its contract: each test is a clause of the definition.
+-- Assumes nothing.
 use Rattle.node.specs.Shape.{deliverable}
 use Rattle.node.proofs.shape.is_deliverable.Statement.{statement}
 use Rattle.node.proofs.shape.is_deliverable.Tie as tie

@@ -1,4 +1,5 @@
--- `node::shape::is_well_formed` meets its contract: each test is a clause of the definition. Assumes nothing.
+-- `node::shape::is_well_formed` meets its contract: each test is a clause of the definition.
+-- Assumes nothing.
 use Rattle.node.specs.Shape.{wellFormed}
 use Rattle.node.proofs.shape.is_well_formed.Statement.{statement}
 use Rattle.node.proofs.shape.is_well_formed.Tie as tie

@@ -1,4 +1,5 @@
--- `node::shape::peer_fits` meets its contract: each test is a clause of the definition. Assumes nothing.
+-- `node::shape::peer_fits` meets its contract: each test is a clause of the definition. Assumes
+-- nothing.
 use Rattle.node.specs.Shape.{peerFits}
 use Rattle.node.proofs.shape.peer_fits.Statement.{statement}
 use Rattle.node.proofs.shape.peer_fits.Tie as tie

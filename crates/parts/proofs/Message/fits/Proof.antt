@@ -1,4 +1,5 @@
--- `parts::Message::fits` meets its contract: each test is a clause of the definition. Assumes nothing.
+-- `parts::Message::fits` meets its contract: each test is a clause of the definition. Assumes
+-- nothing.
 use Rattle.parts.specs.Shape.{messageFits}
 use Rattle.parts.proofs.Message.fits.Statement.{statement}
 use Rattle.parts.proofs.Message.fits.Tie as tie

@@ -1,4 +1,5 @@
--- `parts::shape::links_fit` meets its contract: each test is a clause of the definition. Assumes nothing.
+-- `parts::shape::links_fit` meets its contract: each test is a clause of the definition. Assumes
+-- nothing.
 use Rattle.parts.proofs.shape.links_fit.Statement.{statement}
 use Rattle.parts.proofs.shape.links_fit.Tie as tie
 

@@ -1,5 +1,5 @@
--- `refusal::Refusal::number` meets its contract: in each arm the match says which case it is, and `code` of that case computes.
--- Assumes nothing.
+-- `refusal::Refusal::number` meets its contract: in each arm the match says which case it is, and
+-- `code` of that case computes. Assumes nothing.
 use borrow.Author.Needs.{needs}
 use Rattle.refusal.proofs.Refusal.number.Statement.{statement}
 use Rattle.refusal.proofs.Refusal.number.Tie as tie

@@ -1,5 +1,6 @@
--- `ruling::in_place::decide` meets its contract: a walk of its MIR, by hand, by cases on the call. The borrow is opened once, and the network is lent on to
--- the functions that read it, which leave it as it is; what they see is handed by value to the functions that decide. Assumes nothing.
+-- `ruling::in_place::decide` meets its contract: a walk of its MIR, by hand, by cases on the call.
+-- The borrow is opened once, and the network is lent on to the functions that read it, which leave
+-- it as it is; what they see is handed by value to the functions that decide. Assumes nothing.
 use Prim.Native.Nat.{ℕ, _<_, _^_}
 use mathlib.Core.Path.{_≡_, refl, subst}
 use mathlib.Core.List.{[], _∷_}

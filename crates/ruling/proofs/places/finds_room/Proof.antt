@@ -1,4 +1,5 @@
--- `ruling::places::finds_room` meets its contract: the rule on room, of the message that is met there. Assumes nothing.
+-- `ruling::places::finds_room` meets its contract: the rule on room, of the message that is met
+-- there. Assumes nothing.
 use borrow.Author.Needs.{needs}
 use mathlib.Core.Path.{ap, _∙_}
 use mathlib.Core.Bool.{Bool, not, _||_}

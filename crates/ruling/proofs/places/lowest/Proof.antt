@@ -1,5 +1,5 @@
--- `ruling::places::lowest` meets its contract: what is still to be searched has the same answer as the whole. The measure is what is left of the places.
--- Assumes nothing.
+-- `ruling::places::lowest` meets its contract: what is still to be searched has the same answer as
+-- the whole. The measure is what is left of the places. Assumes nothing.
 use borrow.Author.Needs.{needs}
 use Prim.Native.Nat.{ℕ, suc, _+_, _-_, _≤_}
 use mathlib.Core.Path.{_≡_, sym, ap, _∙_}

@@ -1,4 +1,5 @@
--- `scenarios::crowd::put` meets its contract: it puts from a place inside the script, and so ends inside it. Assumes nothing.
+-- `scenarios::crowd::put` meets its contract: it puts from a place inside the script, and so ends
+-- inside it. Assumes nothing.
 use borrow.Author.Needs.{needs}
 use Rattle.scenarios.proofs.Inside.{put-inside}
 use Rattle.scenarios.proofs.crowd.put.Statement.{statement}
