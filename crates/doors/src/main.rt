@@ -212,8 +212,15 @@ fn by_chance() -> Count {
 
 fn main() {
     let sound = faults::sound();
-    print(b"doors that refuse a well-formed network: ", refused(sound));
-    print(b"doors that refuse 6, of all: ", DOORS);
+    print(b"doors in all: ", DOORS);
+    print(
+        b"doors that refuse 6 a well-formed network: ",
+        refused(sound),
+    );
+    io::write_all(
+        1,
+        b"doors that refuse 6 the same network with one rule broken:\n",
+    );
     by_rule(sound);
     no_ring();
     members(sound);

@@ -9,7 +9,7 @@ use lib.ListN.{length}
 use lib.Seq.{length-take-le}
 use borrow.Author.Tests.{leb-true}
 use Rattle.io.specs.Counts.{Counts}
-use Rattle.text.specs.Text.{fits, pasted, placeAfter}
+use Rattle.text.specs.Buffers.{fits, pasted, placeAfter}
 use Rattle.text.proofs.Laws.{length-pasted}
 
 module _ (buffer : List ℕ) (at : ℕ) (piece : List ℕ) (inside : at ≤ length buffer) where

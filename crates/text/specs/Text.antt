@@ -5,7 +5,6 @@ use Prim.Native.String.{String, [] as endOfWord, _∷_ as _then_}
 use mathlib.Core.Bool.{cond}
 use mathlib.Core.List.{List, [], _∷_, _++_}
 use lib.Dec.{ltb}
-pub use Rattle.text.specs.Buffers.{fits, pasted, placeAfter, Put}
 
 -- the bytes of a word
 abbrev pub ascii : String → List ℕ
