@@ -1,5 +1,5 @@
 // What a network is asked to do and to say: calls and drains by value and in place, questions, and
-// the whole printout of a script. Every public function takes any network: it tests the network
+// the whole printout of a script. Every public function takes any network (R11.1): it tests it
 // first, and refuses 6 with the very network where it is not well formed. What is done past the
 // test is private to this crate, and asks that the network be well formed. Each contract is an
 // equation with the rules of the crate `protocol` on the lists that the network's arrays hold.

@@ -37,8 +37,8 @@ pub(crate) fn apply(network: Network, call: Call) -> Called
     }
 }
 
-// R8.1: deliveries, each at the lowest place where one is not refused, until nothing waits or the
-// budget is spent.
+// R8.1: deliveries, each at the lowest place where one is not refused, while a message waits and
+// the budget allows.
 pub(crate) fn drain(network: Network, budget: u16) -> Called
     requires { ⌜ wellFormed network ≡ true ⌝ }
     ensures { λ r. ⌜ called r ≡ counted (drainOf network budget) ⌝ }

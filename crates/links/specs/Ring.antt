@@ -1,6 +1,6 @@
--- A ring written down as a list: its members in the order of their keys, each with a right link to
--- the next and the last with one to the first; and that list with a member more, or one less. A
--- node is a number; `key` gives its key and `right` its right link. Definitions only.
+-- R10.3, R10.12, a ring written down as a list: its members in the order of their keys, each with a
+-- right link to the next and the last with one to the first; and that list with a member more, or
+-- one less. A node is a number; `key` gives its key and `right` its right link. Definitions only.
 use mathlib.Core.Path.{_≡_}
 use mathlib.Core.Bool.{cond}
 use mathlib.Core.List.{List, [], _∷_, List·Memᴰ}

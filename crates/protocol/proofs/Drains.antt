@@ -1,4 +1,4 @@
--- None of a drain's deliveries is refused, it goes on until nothing waits or the budget is spent,
+-- None of a drain's deliveries is refused, it goes on while a message waits and its budget allows,
 -- and it leads where these deliveries lead as calls. While a message waits in a well-formed network
 -- some delivery is not refused, so the search for the lowest place finds one; and each delivery
 -- leaves the network well formed. Assumes nothing.

@@ -23,7 +23,7 @@ member-bit s u k = word-bit (length (s .nodes)) (inserted s) u k
 pub no-bit-past : (s : State) (u : ℕ) → length (s .nodes) ≤ u → insertedWord s / 2 ^ u % 2 ≡ 0
 no-bit-past s u k = word-past (length (s .nodes)) (inserted s) u k
 
--- ---- how many are inserted is the number of its ones
+-- ---- R4.2: counting the ones of the word tells how many are inserted
 pub size-is-ones : (s : State) → ones (insertedWord s) ≡ insertedCount s
 size-is-ones s = word-ones (length (s .nodes)) (inserted s)
 

@@ -30,7 +30,7 @@ abbrev pub placesFrom : (State → List ℕ) → State → Option ℕ → List �
 placesFrom rest s none = []
 placesFrom rest s (some place) = place ∷ rest (afterDelivery s place)
 
--- R8.1: the places of the deliveries, in turn, until nothing waits or the budget is spent
+-- R8.1: the places of the deliveries, in turn, while a message waits and the budget allows
 abbrev pub places : ℕ → State → List ℕ
 places zero s = []
 places (suc budget) s = placesFrom (places budget) s (lowest s)
@@ -45,7 +45,7 @@ abbrev pub postsOfAll : State → List ℕ → List Message
 postsOfAll s [] = []
 postsOfAll s (place ∷ rest) = applyOf s (Deliver place) .posts ++ postsOfAll (afterDelivery s place) rest
 
--- R8.2: the answer is the deliveries made and the messages left
+-- R8.2: how many deliveries were made, and how many messages wait then
 abbrev pub drained : State → List ℕ → Result
 drained s places = record {
   state = deliverAll s places;

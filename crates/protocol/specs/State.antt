@@ -17,7 +17,8 @@ use Rattle.parts.specs.Shape.{messageFits}
 use Rattle.node.specs.declared.Node.{Node}
 use Rattle.node.specs.Shape.{declaredOf, capacity, nodeFits}
 
--- R1.7: a node's number is its place among the nodes; messages stand in the order posted
+-- R1.7: a node's number is its place among the nodes; R1.10: the messages that wait stand in the
+-- order posted
 pub record State : Type 0 where
   pub nodes : List Node
   pub messages : List Message
