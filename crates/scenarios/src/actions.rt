@@ -35,6 +35,19 @@ pub(crate) fn notices(run: &mut Sheet) {
           DL\x00\
           LV\x00DL\x00",
     );
+    // R5.4, R5.6, R5.8: node 1 comes, goes and comes again, and its granter goes on from the number
+    // of the leave. So each notice to node 0 is newer.
+    scene(
+        run,
+        b"after a leave the numbers go on\n\
+          BC\x00\x00\x10\x00\
+          BC\x00\x00\x20\x00\
+          CR\x00\
+          JN\x01\x00\x00DL\x00DL\x00DL\x00\
+          LV\x01DL\x00DL\x00DL\x00\
+          JN\x01\x00\x00DL\x00DL\x00DL\x00\
+          LV\x00DL\x00",
+    );
     // R5.2, R1.5: node 1 leaves with the left number 1 and joins with it again. So the notice of
     // 2's leave has 2 and is taken, and node 1 asks node 0.
     scene(

@@ -47,6 +47,22 @@ pub(crate) fn fields(run: &mut Sheet) {
           OC\x00\x00\x00\x00\x0a\
           OC\x00\x00\x00\x00\x09",
     );
+    // R9.4, refusal 3, refusal 21: each of the eight digits in turn; and all eight in their order, in
+    // both forms.
+    scene(
+        run,
+        b"no 3: each of the eight digits\n\
+          BC\xa0\x00\x00\x00\
+          BC\x0b\x00\x00\x00\
+          BC\x00\xc0\x00\x00\
+          BC\x00\x0d\x00\x00\
+          BC\x00\x00\xe0\x00\
+          BC\x00\x00\x0f\x00\
+          BC\x00\x00\x00\xa0\
+          BC\x00\x00\x00\x0f\
+          BC\x12\x34\x56\x78\
+          BN\x4e\x61\xbc\x00",
+    );
     // R1.1, R9.4, refusal 4: one too many and the highest, of a declaration and of a question.
     scene(
         run,
