@@ -11,7 +11,15 @@ returns c =
     let args = c .before .before .before .before .args in
     c .refuse .ensures ∙ ap (λ k. unlessRefused (checked k) turnedAway (decided (args .accepted))) (sym (c .before .before .check .given .1))
 
+returns-2 : tie.Need-returns-2
+returns-2 c = ap (λ k. unlessRefused (checked k) turnedAway (decided (c .before .before .args .accepted))) (sym (c .enum-told .given .1))
+
 pub unless-refused-spec : {M : Type 1} → statement M
 unless-refused-spec =
     tie.close
-    (tie.spec (λ c. search needs) (λ c κs. search needs) (λ c. search needs) returns (λ c. cc))
+    (tie.spec
+    (λ c. search needs)
+    (λ c κs. search needs)
+    (λ c. search needs)
+    returns
+    returns-2)

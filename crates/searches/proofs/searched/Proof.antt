@@ -57,11 +57,24 @@ returns-3 c =
     let notice = notice-is (network t) (c .before .before .order3 .given .0 .0) (t .least2 .ensures) (c .notice-waits2 .ensures) in
     rw (c .before .before .order3 .given .1) (λ i. record { taken = false; standing = false; notice = notice i })
 
+returns-4 : tie.Need-returns-4
+returns-4 c = rw (c .enum-told .given .1)
+
 pub searched-spec : {M : Type 1} → statement M
 searched-spec =
     tie.close
-    (tie.spec (λ c κs. search needs) (λ c κs. search needs) (λ c. search needs)
-    (λ c κs. nodes-within (c .before .before .before)) (λ c. search needs)
-    (λ c κs. nodes-within (c .before .before .before)) (λ c κs. messages-within (c .before .before .before .before))
-    (λ c. search needs) (λ c κs. messages-within (c .before .before .before)) (λ c. search needs) returns returns-2
-    returns-3 (λ c. cc))
+    (tie.spec
+    (λ c κs. search needs)
+    (λ c κs. search needs)
+    (λ c. search needs)
+    (λ c κs. nodes-within (c .before .before .before))
+    (λ c. search needs)
+    (λ c κs. nodes-within (c .before .before .before))
+    (λ c κs. messages-within (c .before .before .before .before))
+    (λ c. search needs)
+    (λ c κs. messages-within (c .before .before .before))
+    (λ c. search needs)
+    returns
+    returns-2
+    returns-3
+    returns-4)

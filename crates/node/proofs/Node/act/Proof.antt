@@ -3,6 +3,10 @@ use borrow.Author.Needs.{needs}
 use Rattle.node.proofs.Node.act.Statement.{statement}
 use Rattle.node.proofs.Node.act.Tie as tie
 
+returns : tie.Need-returns
+returns c =
+    simp (← c .before .before .is-out .ensures, c .before .if1 .taken, c .silent .ensures)
+
 returns-2 : tie.Need-returns-2
 returns-2 c =
     let not-out = c .before .before .before .before in
@@ -26,5 +30,19 @@ returns-5 c =
 pub act-spec : {M : Type 1} → statement M
 act-spec =
     tie.close
-    (tie.spec (λ c κs. tt) (λ c κs. tt) (λ c. cc) (λ c. search needs) (λ c κs. tt) (λ c. search needs) (λ c κs. tt)
-    (λ c. search needs) (λ c κs. tt) (λ c. search needs) (λ c κs. tt) returns-2 returns-3 returns-4 returns-5)
+    (tie.spec
+    (λ c κs. tt)
+    (λ c κs. tt)
+    returns
+    (λ c. search needs)
+    (λ c κs. tt)
+    (λ c. search needs)
+    (λ c κs. tt)
+    (λ c. search needs)
+    (λ c κs. tt)
+    (λ c. search needs)
+    (λ c κs. tt)
+    returns-2
+    returns-3
+    returns-4
+    returns-5)

@@ -6,7 +6,7 @@ use Rattle.node.proofs.Node.join_unchecked.Tie as tie
 
 returns : tie.Need-returns
 unfolding joinUnchecked
-returns c = cc
+returns c = simp (← c .before .before .is-out .ensures, c .before .if1 .taken, c .refuse .ensures)
 
 returns-2 : tie.Need-returns-2
 unfolding joinUnchecked
@@ -23,4 +23,12 @@ returns-3 c =
 pub join-unchecked-spec : {M : Type 1} → statement M
 join-unchecked-spec =
     tie.close
-    (tie.spec (λ c κs. tt) (λ c κs. tt) returns (λ c κs. tt) (λ c κs. tt) returns-2 (λ c κs. tt) returns-3)
+    (tie.spec
+    (λ c κs. tt)
+    (λ c κs. tt)
+    returns
+    (λ c κs. tt)
+    (λ c κs. tt)
+    returns-2
+    (λ c κs. tt)
+    returns-3)

@@ -12,7 +12,7 @@ use Rattle.node.proofs.Node.leave_unchecked.Tie as tie
 
 returns : tie.Need-returns
 unfolding leaveUnchecked
-returns c = cc
+returns c = simp (← c .before .before .is-in .ensures, c .before .if1 .taken, c .refuse .ensures)
 
 returns-2 : tie.Need-returns-2
 unfolding leaveUnchecked
@@ -54,5 +54,19 @@ returns-4 c =
 pub leave-unchecked-spec : {M : Type 1} → statement M
 leave-unchecked-spec =
     tie.close
-    (tie.spec (λ c κs. tt) (λ c κs. tt) (λ c κs. tt) returns (λ c κs. tt) (λ c κs. tt) returns-2 (λ c κs. tt)
-    (λ c κs. tt) returns-3 (λ c κs. tt) (λ c κs. tt) (λ c κs. tt) (λ c κs. tt) returns-4)
+    (tie.spec
+    (λ c κs. tt)
+    (λ c κs. tt)
+    (λ c κs. tt)
+    returns
+    (λ c κs. tt)
+    (λ c κs. tt)
+    returns-2
+    (λ c κs. tt)
+    (λ c κs. tt)
+    returns-3
+    (λ c κs. tt)
+    (λ c κs. tt)
+    (λ c κs. tt)
+    (λ c κs. tt)
+    returns-4)

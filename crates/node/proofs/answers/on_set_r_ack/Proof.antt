@@ -4,8 +4,14 @@ use borrow.Author.Needs.{needs}
 use Rattle.node.proofs.answers.on_set_r_ack.Statement.{statement}
 use Rattle.node.proofs.answers.on_set_r_ack.Tie as tie
 
+returns : tie.Need-returns
+returns c = simp (c .before .enum-told .given .1, c .silent .ensures)
+
 returns-2 : tie.Need-returns-2
 returns-2 c = simp (c .before .enum-told2 .given .1, c .silent2 .ensures)
+
+returns-3 : tie.Need-returns-3
+returns-3 c = simp (c .before .enum-told3 .given .1, c .silent3 .ensures)
 
 returns-4 : tie.Need-returns-4
 returns-4 c = simp (c .before .enum-told4 .given .1, c .silent4 .ensures)
@@ -13,5 +19,16 @@ returns-4 c = simp (c .before .enum-told4 .given .1, c .silent4 .ensures)
 pub on-set-r-ack-spec : {M : Type 1} → statement M
 on-set-r-ack-spec =
     tie.close
-    (tie.spec (λ c. search needs) (λ c κs. tt) (λ c. search needs) (λ c κs. tt) (λ c. search needs) (λ c κs. tt)
-    (λ c. search needs) (λ c κs. tt) (λ c. cc) returns-2 (λ c. cc) returns-4)
+    (tie.spec
+    (λ c. search needs)
+    (λ c κs. tt)
+    (λ c. search needs)
+    (λ c κs. tt)
+    (λ c. search needs)
+    (λ c κs. tt)
+    (λ c. search needs)
+    (λ c κs. tt)
+    returns
+    returns-2
+    returns-3
+    returns-4)

@@ -6,7 +6,7 @@ use Rattle.node.proofs.shape.is_deliverable.Tie as tie
 
 returns : tie.Need-returns
 unfolding deliverable
-returns c = cc
+returns c = simp (c .fits2 .ensures)
 
 pub is-deliverable-spec : {M : Type 1} → statement M
 is-deliverable-spec = tie.close (tie.spec (λ c κs. tt) returns)

@@ -6,7 +6,7 @@ use Rattle.node.proofs.shape.peer_fits.Tie as tie
 
 returns : tie.Need-returns
 unfolding peerFits
-returns c = cc
+returns c = simp (c .in-range .ensures)
 
 pub peer-fits-spec : {M : Type 1} → statement M
 peer-fits-spec = tie.close (tie.spec (λ c κs. tt) returns)
