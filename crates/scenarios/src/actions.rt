@@ -48,7 +48,7 @@ pub(crate) fn notices(run: &mut Sheet) {
           JN\x01\x00\x00DL\x00DL\x00DL\x00\
           LV\x00DL\x00",
     );
-    // R5.2, R1.5: node 1 leaves with the left number 1 and joins with it again. So the notice of
+    // R5.2: node 1 leaves with the left number 1 and joins with it again. So the notice of
     // 2's leave has 2 and is taken, and node 1 asks node 0.
     scene(
         run,

@@ -73,7 +73,7 @@ pub(crate) fn fields(run: &mut Sheet) {
           ON\x00\x00\xe1\xf5\x05\
           ON\x00\xff\xe0\xf5\x05",
     );
-    // R6.5, R6.6, R6.7, R6.8, R7.3, refusal 5: each field that names a node, and a question with a
+    // R6.6, R6.7, R6.8, R7.3, refusal 5: each field that names a node, and a question with a
     // digit above 9 as well: the start comes first.
     scene(
         run,

@@ -1,8 +1,7 @@
 -- `network::shape::message_places_fit` meets its contract: after i turns the flag is the test of
 -- the first i places. The measure is what is left of the 64. Assumes nothing.
 use Prim.Native.Nat.{_≤_, _-_}
-use mathlib.Core.Path.{_≡_, refl, ap, _∙_}
-use mathlib.Core.Bool.{_&&_}
+use mathlib.Core.Path.{_≡_, refl}
 use native.Mathlib.Omega.{arith}
 use native.Mathlib.Numerals.{add-one}
 use borrow.Author.Needs.{needs}
@@ -21,33 +20,20 @@ Inv-loop waiting count messages ok₀ i₀ ok i = (i ≤ 64) × (ok ≡ everyBel
 abbrev μ-loop : tie.MeasureT-loop
 μ-loop waiting count messages ok₀ i₀ ok i = 64 - i
 
-loop-holds : tie.Need-loop-holds Inv-loop μ-loop
-loop-holds c = (omega arith, refl)
-
 loop-again : tie.Need-loop-again Inv-loop μ-loop
 loop-again c =
     let turn = c .before .before .before in
     let args = turn .before .args in
     let read = same-element (args .t1) (turn .loop .i) zeroMessage vacantMessage (omega (arith, turn .before .good .0 .1 .0 .1)) in
-    (search needs, rw (add-one, ← read) (λ i. turn .loop .inv .1 i && c .message-place-fits .ensures i))
+    (search needs, rw add-one cc)
 
 returns : tie.Need-returns Inv-loop μ-loop
 returns c =
     let args = c .before .before .args in
-    let all : c .before .loop .i ≡ length (args .t1) = omega (arith, c .before .before .good .0 .1 .0 .1) in
-    c .before .loop .inv .1 ∙ ap (λ i. everyBelow i (placeFits (messageFits (args .count)) isVacantMessage vacantMessage (args .t1) (args .waiting))) all
+    let all : c .before .loop .i ≡ length (args .t1) = omega (arith, c .before .before .good .0 .1 .0 .1) in cc
 
 pub message-places-fit-spec : {M : Type 1} → statement M
 message-places-fit-spec =
     tie.close
-    (tie.spec
-    Inv-loop
-    μ-loop
-    loop-holds
-    (λ c. search needs)
-    (λ c. search needs)
-    (λ c κs. tt)
-    (λ c. search needs)
-    (λ c. search needs)
-    loop-again
-    returns)
+    (tie.spec Inv-loop μ-loop (λ c. (omega arith, refl)) (λ c. search needs) (λ c. search needs) (λ c κs. tt)
+    (λ c. search needs) (λ c. search needs) loop-again returns)
