@@ -29,7 +29,7 @@ taskOf (record′.Declare serial) = declaring serial
 taskOf (record′.Owner start serial) = task.Owner start serial
 taskOf (record′.Drain budget) = task.Drain budget
 
--- what is read; at the end, where nobody asks, it does not matter
+-- what is read; at the end, where nobody asks, it is as if a record were cut short
 abbrev pub taskRead : Reading → Task
 taskRead reading.End = task.Refuse CutShort
 taskRead (reading.Stopped r) = task.Refuse r
@@ -41,8 +41,8 @@ cursorAfter size reading.End = size
 cursorAfter size (reading.Stopped r) = size
 cursorAfter size (reading.Next asked after) = after
 
--- what a script's bytes at a cursor ask: at the end, where nobody asks, nothing is said of it
+-- what a script's bytes at a cursor ask
 abbrev pub Asks : ℕ → Read → Asked → Type 0
-Asks size end a = Unit {0}
+Asks size end a = (a .task ≡ task.Refuse CutShort) × (a .after ≡ size)
 Asks size (stop q) a = (r : Refusal) × (a .task ≡ task.Refuse r) × (reason r ≡ q) × (a .after ≡ size)
 Asks size (next asked after) a = (a .task ≡ taskOf asked) × (a .after ≡ after)

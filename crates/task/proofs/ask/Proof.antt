@@ -12,7 +12,7 @@ use Rattle.task.proofs.ask.Statement.{statement}
 use Rattle.task.proofs.ask.Tie as tie
 
 asks : (size : ℕ) (r : Reading) (a : Asked) → (a .task ≡ taskRead r) × (a .after ≡ cursorAfter size r) → Asks size (reading r) a
-asks size End a e = tt
+asks size End a e = e
 asks size (Stopped q) a (task, after) = (q, task, refl, after)
 asks size (Next asked c) a e = e
 
