@@ -32,7 +32,7 @@ use Rattle.protocol.specs.declared.Reply.the-variants.{Owner}
 use Rattle.protocol.specs.State.{State, declared, nodeAt, keyAt, rightAt, wellFormed, inserted}
 use Rattle.protocol.specs.History.{history}
 use Rattle.protocol.specs.Claim.{Inserted}
-use Rattle.protocol.specs.Questions.{Walk, found, walked, ownerAt, ownerFrom, ownerRules, ownerOf}
+use Rattle.protocol.specs.Questions.{Walk, found, walked, ownerAt, ownerFrom, ownerRules, ownerOf, hopLimit}
 use Rattle.protocol.specs.FurtherClaims.{FindsOwner, OwnerClaim, AlwaysFound}
 use Rattle.protocol.proofs.Nodes.{declared-unless-out}
 use Rattle.protocol.proofs.Facts.{tested}
@@ -97,13 +97,13 @@ unfolding inserted
 inserted-declared s u t = declared-unless-out s u (member-not-out (nodeAt s) (s .messages) u (is-true _ t))
 
 none-refuses : (s : State) (start serial : ℕ) → wellFormed s ≡ true → declared s start ≡ true → inRange serial ≡ true → inserted s start ≡ true
-    → ownerOf s start serial ≡ walked (ownerFrom s serial (length (s .nodes)) start 0)
+    → ownerOf s start serial ≡ walked (ownerFrom s serial (hopLimit s) start 0)
 unfolding ownerOf
 none-refuses s start serial well-formed known ranged member = simp (well-formed, known, ranged, member)
 
 module _ (s : State) (well-formed : T (wellFormed s)) {L : List ℕ} (ring : Ring (keyAt s) (rightAt s) L) (member : (u : ℕ) → (u ∈ L) ↔ Inserted s u) where
   -- no more members than hops allowed
-  few-members : length L ≤ length (s .nodes)
+  few-members : length L ≤ hopLimit s
   few-members = few-below (keyAt s) (length (s .nodes)) L (ring .ascending) (λ u i. inserted-declared s u (member u .0 i))
 
   finds-owner : (start serial : ℕ) → Inserted s start → T (inRange serial) → FindsOwner s start serial (ownerOf s start serial)
@@ -111,7 +111,7 @@ module _ (s : State) (well-formed : T (wellFormed s)) {L : List ℕ} (ring : Rin
       let i = member start .1 t in
       let o = owner ring i serial in
       let (k, few, meets) = reaches ring i (o .member) in
-      let f = search s serial ring o (length (s .nodes)) start 0 k i (omega (arith, few, few-members)) meets in
+      let f = search s serial ring o (hopLimit s) start 0 k i (omega (arith, few, few-members)) meets in
       let known = lt-ltb start (length (s .nodes)) (inserted-declared s start t) in
       let clear = none-refuses s start serial (is-true _ well-formed) known (is-true _ ranged) (is-true _ t) in
       record {
@@ -146,7 +146,7 @@ always-found calls start serial e = go (first (ownerRules s start serial)) refl 
     never-31 : Never 31 (ownerRules s start serial)
     never-31 = others refl
 
-    go : (o : Option Reason) → first (ownerRules s start serial) ≡ o → unlessRefused o no (walked (ownerFrom s serial (length (s .nodes)) start 0)) ≡ no (plain 31) → ⊥
+    go : (o : Option Reason) → first (ownerRules s start serial) ≡ o → unlessRefused o no (walked (ownerFrom s serial (hopLimit s) start 0)) ≡ no (plain 31) → ⊥
     go none clear f =
         let (_, (_, (ranged, (member, _)))) = cleared (ownerRules s start serial) clear in
         let finds = owner-found calls start serial (holds (not-false (inserted s start) member)) (holds (not-false (inRange serial) ranged)) in

@@ -22,7 +22,7 @@ use Rattle.protocol.specs.declared.Order.the-variants.{Declare, Create, 
 use Rattle.protocol.specs.declared.Call.the-variants.{Order, Deliver}
 use Rattle.protocol.specs.State.{State, declared, nodeAt, wellFormed}
 use Rattle.protocol.specs.Calls.{Result, refused, peerAt, rulesOf, effectOf, applyOf}
-use Rattle.protocol.specs.Questions.{Walk, found, lost, walked, ownerFrom, ownerRules, ownerOf}
+use Rattle.protocol.specs.Questions.{Walk, found, lost, walked, ownerFrom, ownerRules, ownerOf, hopLimit}
 use Rattle.protocol.specs.Answer.{accepted}
 use Rattle.protocol.proofs.Facts.{WellFormed, well-formed, tested}
 use Rattle.protocol.proofs.Cases.{tested-below, accepted-case}
@@ -117,6 +117,6 @@ owner-never-six s w start serial e = go (first (ownerRules s start serial)) refl
     walk (found u hops) f = impossible cc
     walk lost f = impossible cc
 
-    go : (o : Option Reason) → first (ownerRules s start serial) ≡ o → ¬ (unlessRefused o no (walked (ownerFrom s serial (length (s .nodes)) start 0)) ≡ no (plain 6))
-    go none clear f = walk (ownerFrom s serial (length (s .nodes)) start 0) f
+    go : (o : Option Reason) → first (ownerRules s start serial) ≡ o → ¬ (unlessRefused o no (walked (ownerFrom s serial (hopLimit s) start 0)) ≡ no (plain 6))
+    go none clear f = walk (ownerFrom s serial (hopLimit s) start 0) f
     go (some r) refuses f = never rules cc

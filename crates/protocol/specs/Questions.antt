@@ -60,6 +60,10 @@ abbrev pub walked : Walk → Coded Reply
 walked (found u hops) = done (Owner u hops)
 walked lost = no (plain 31)
 
--- R7.2: as many hops as there are nodes may be made
+-- R7.2: how many hops may be made, as many as there are nodes
+abbrev pub hopLimit : State → ℕ
+hopLimit s = length (s .nodes)
+
+-- R7.1, R7.3: the walk from the start, where no rule refuses
 unfoldable pub ownerOf : State → ℕ → ℕ → Coded Reply
-ownerOf s start serial = ruled (ownerRules s start serial) no (walked (ownerFrom s serial (length (s .nodes)) start 0))
+ownerOf s start serial = ruled (ownerRules s start serial) no (walked (ownerFrom s serial (hopLimit s) start 0))
