@@ -23,8 +23,8 @@ use Rattle.printout.specs.Lines.{heading, lineOf}
 use Rattle.course.specs.Execution.{executeOf}
 use Rattle.course.specs.Run.{after}
 
--- the calls of a record: none where its serial is refused, and none for a question; a drain counts
--- as its deliveries (R10.1)
+-- R10.11: the calls of a record, none where its serial is refused, and none for a question; R10.1:
+-- a drain counts as its deliveries
 abbrev pub callsOf : State → Record → List Call
 callsOf s (CallRecord call) = call ∷ []
 callsOf s (DeclareRecord (Value key)) = Order (Declare key) ∷ []
@@ -33,33 +33,34 @@ callsOf s (DeclareRecord TooLarge) = []
 callsOf s (OwnerRecord start serial) = []
 callsOf s (DrainRecord budget) = map Deliver (places budget s)
 
+-- R10.11: the calls of what is read at a cursor
 abbrev pub callsRead : State → Read → List Call
 callsRead s end = []
 callsRead s (stop r) = []
 callsRead s (next asked c) = callsOf s asked
 
--- the calls of the first k records of a script
+-- R10.11: the calls of the first k records of a script
 abbrev pub scriptCalls : List ℕ → ℕ → List Call
 scriptCalls script zero = []
 scriptCalls script (suc k) = scriptCalls script k ++ callsRead (after script k .state) (readAt script (after script k .at))
 
--- the answer to what is read at the cursor: at the end there is none
+-- R9.7: the answer to what is read at a cursor; at the end there is none
 abbrev pub answerTo : State → Read → List (Coded Reply)
 answerTo s end = []
 answerTo s (stop r) = no r ∷ []
 answerTo s (next asked c) = executeOf s asked .said ∷ []
 
--- the answers to the first k records of a script
+-- R9.7: the answers to the first k records of a script
 abbrev pub answersOf : List ℕ → ℕ → List (Coded Reply)
 answersOf script zero = []
 answersOf script (suc k) = answersOf script k ++ answerTo (after script k .state) (readAt script (after script k .at))
 
--- their lines, numbered from an ordinal on
+-- R9.7: their lines, numbered from an ordinal on
 abbrev pub lines : ℕ → List (Coded Reply) → List ℕ
 lines ordinal [] = []
 lines ordinal (said ∷ rest) = lineOf ordinal said ++ lines (suc ordinal) rest
 
--- what holds after k records
+-- R10.11: what holds after k records
 pub record Made (script : List ℕ) (k : ℕ) : Type 0 where
   pub network : after script k .state ≡ history (scriptCalls script k) .state
   -- R10.11: T counts what these calls post
@@ -74,6 +75,6 @@ pub record Made (script : List ℕ) (k : ℕ) : Type 0 where
   pub never-31 : ¬ List·Memᴰ (no (plain 31)) (answersOf script k)
   pub found : (start serial : ℕ) → ¬ (ownerOf (after script k .state) start serial ≡ no (plain 31))
 
--- for every script, whatever its bytes, and after each of its records
+-- R10.11: for every script, whatever its bytes, and after each of its records
 abbrev pub ScriptClaim : Type 0
 ScriptClaim = (script : List ℕ) (k : ℕ) → Made script k

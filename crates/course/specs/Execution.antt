@@ -17,7 +17,7 @@ use Rattle.script.specs.declared.Record.{Record}
 use Rattle.script.specs.declared.Record.the-variants.{Call, Declare, Owner, Drain}
 
 -- ---- the refusals of the fields that the calls themselves do not see
--- refusals 3 and 4 of a serial, as it says at its turn
+-- R9.6: refusals 3 and 4 of a serial, as it says at its turn
 abbrev pub unread : Coded ℕ → List Rule
 unread (done d) = []
 unread (no r) = rule r true ∷ []
@@ -30,7 +30,7 @@ fieldRules s (Owner start serial) = (5 when not (declared s start)) ∷ unread (
 fieldRules s (Drain budget) = []
 
 -- ---- what is done where none of these refuses
--- the serial; where it is refused it is not asked for
+-- R9.6: the serial; where it is refused it is not asked for
 abbrev pub valueOf : Coded ℕ → ℕ
 valueOf (done d) = d
 valueOf (no r) = 0
@@ -39,6 +39,7 @@ valueOf (no r) = 0
 abbrev pub saying : State → Coded Reply → Result
 saying s said = record { state = s; posts = []; said = said }
 
+-- R9.2: a call, a declaration with the serial that was read, a question, or a drain
 abbrev pub executing : State → Record → Result
 executing s (Call call) = applyOf s call
 executing s (Declare serial) = applyOf s (Order (DeclareOrder (valueOf (coded serial))))

@@ -12,8 +12,8 @@ use Rattle.script.specs.Script.{Read, end, stop, next, readAt}
 use Rattle.printout.specs.Lines.{heading, lineOf, lastLine}
 use Rattle.course.specs.Execution.{executeOf}
 
--- how far a run has come: the network, the cursor, the ordinal of the last record, all messages
--- posted, and the printout so far
+-- R9.7, R9.8: how far a run has come: the network, the cursor, the ordinal of the last record, all
+-- messages posted, and the printout so far
 pub record Progress : Type 0 where
   pub state : State
   pub at : ℕ
@@ -21,6 +21,7 @@ pub record Progress : Type 0 where
   pub posted : ℕ
   pub text : List ℕ
 
+-- R9.7: from the empty network, with the first line printed
 abbrev pub start : Progress
 start = record { state = empty; at = 0; ordinal = 0; posted = 0; text = heading }
 
@@ -37,6 +38,7 @@ advanced script p (next asked after) = record {
   text = p .text ++ lineOf (p .ordinal + 1) (executeOf (p .state) asked .said);
 }
 
+-- R9.7: one more record, where the cursor stands
 abbrev pub stepOf : List ℕ → Progress → Progress
 stepOf script p = advanced script p (readAt script (p .at))
 

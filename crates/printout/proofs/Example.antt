@@ -31,8 +31,8 @@ saidInThePaper =
     ∷ no (plain 29)
     ∷ []
 
-abbrev printout : List ℕ
-printout =
+abbrev pub paperPrintout : List ℕ
+paperPrintout =
     ascii "ring 1\n"
     ++ ascii "1 bench 0 key 1000\n"
     ++ ascii "2 bench 1 key 2000\n"
@@ -48,6 +48,6 @@ printout =
     ++ ascii "12 no 29\n"
     ++ ascii "end 0 posted 5\n"
 
-pub printed-in-the-paper : heading ++ lines 1 saidInThePaper ++ lastLine 0 5 ≡ printout
+pub printed-in-the-paper : heading ++ lines 1 saidInThePaper ++ lastLine 0 5 ≡ paperPrintout
 unfolding lineOf lastLine decimal
 printed-in-the-paper = refl

@@ -11,7 +11,7 @@ use Rattle.script.specs.declared.Record.the-variants.{Call, Declare, Own
 use Rattle.script.specs.Script.{Read, end, stop, next, readAt}
 
 -- ---- the example script
-paperScript : List ℕ
+abbrev pub paperScript : List ℕ
 paperScript =
     0x42 ∷ 0x43 ∷ 0x00 ∷ 0x00 ∷ 0x10 ∷ 0x00
     ∷ 0x42 ∷ 0x4e ∷ 0xd0 ∷ 0x07 ∷ 0x00 ∷ 0x00
@@ -53,7 +53,7 @@ paper-script :
     ∷ next (Call (Deliver 0)) 48
     ∷ end
     ∷ []
-unfolding readAt readings paperScript
+unfolding readAt readings
 paper-script = refl
 
 -- ---- R9.4: bytes of a serial in the one form and in the other, and refusals 3 and 4, after which
