@@ -1,8 +1,9 @@
 -- The two functions of `in_place` as one walk: a network is put in the local _3, is lent to a
 -- public function of `engine` for the call, and lies there again as some network, which is handed
 -- back with the report. Nothing is claimed of either, beyond that they are a network and a report.
---     door σ τ f       the MIR of such a function: its reference is said to point to σ, its second parameter has the type τ, and f is called.
---                      The generated `function` is this by computation
+--     door σ τ f       the MIR of such a function: its reference is said to point to σ, its second
+--                      parameter has the type τ, and f is called. The generated `function` is this
+--                      by computation
 --     meets            it is safe and ends, where f asks nothing
 -- Assumes `Given`.
 use Prim.Native.Nat.{ℕ}

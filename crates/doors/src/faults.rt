@@ -43,14 +43,10 @@ fn with_node(network: Network, place: usize, node: Node) -> Network {
     n
 }
 
-fn with_message(network: Network, place: usize, to: u8, kind: Kind) -> Network {
+fn with_message(network: Network, place: usize, sender: u8, to: u8, kind: Kind) -> Network {
     let mut n = network;
     if place < 64 {
-        n.messages[place] = Message {
-            sender: 0,
-            to,
-            kind,
-        };
+        n.messages[place] = Message { sender, to, kind };
     }
     n
 }
@@ -71,16 +67,27 @@ fn with_first(network: Network, key: u32, right: Link, rseq: Seq) -> Network {
     with_node(network, 0, linked(key, Link::To(0), right, rseq))
 }
 
-// R2.2: a count past its limit.
-pub(crate) fn too_many_nodes(network: Network) -> Network {
+// R2.2: a node with a key of its own in each of the 32 places, or a message in each of the 64, and
+// the count given: at the limit nothing is wrong, and past it the count alone is.
+pub(crate) fn full_of_nodes(network: Network, count: u8) -> Network {
     let mut n = network;
-    n.count = 255;
+    let mut i: usize = 2;
+    while i < 32 {
+        n = with_node(n, i, decision::declared(i as u32));
+        i += 1;
+    }
+    n.count = count;
     n
 }
 
-pub(crate) fn too_many_messages(network: Network) -> Network {
+pub(crate) fn full_of_messages(network: Network, waiting: u8) -> Network {
     let mut n = network;
-    n.waiting = 255;
+    let mut i: usize = 2;
+    while i < 64 {
+        n = with_message(n, i, 0, 0, Kind::SetL { left: 1, number: 1 });
+        i += 1;
+    }
+    n.waiting = waiting;
     n
 }
 
@@ -90,7 +97,7 @@ pub(crate) fn node_past_the_count(network: Network) -> Network {
 }
 
 pub(crate) fn message_past_the_count(network: Network) -> Network {
-    with_message(network, 63, 0, Kind::SetRAck { number: 0 })
+    with_message(network, 63, 0, 0, Kind::SetRAck { number: 0 })
 }
 
 // R2.4: a key that another node has, and one out of range.
@@ -108,12 +115,13 @@ pub(crate) fn link_undeclared(network: Network) -> Network {
 }
 
 pub(crate) fn addressee_undeclared(network: Network) -> Network {
-    with_message(network, 0, 2, Kind::SetL { left: 1, number: 1 })
+    with_message(network, 0, 0, 2, Kind::SetL { left: 1, number: 1 })
 }
 
 pub(crate) fn left_undeclared(network: Network) -> Network {
     with_message(
         network,
+        0,
         0,
         0,
         Kind::SetL {
@@ -140,17 +148,18 @@ pub(crate) fn number_missing(network: Network) -> Network {
 // R2.7: two answers to one node, an answer to a node that waits for none, and a request from one
 // that asks nothing.
 pub(crate) fn two_answers(network: Network) -> Network {
-    with_message(network, 0, 1, Kind::SetRNak)
+    with_message(network, 0, 0, 1, Kind::SetRNak)
 }
 
 pub(crate) fn answer_unasked(network: Network) -> Network {
-    with_message(network, 1, 0, Kind::SetRAck { number: 1 })
+    with_message(network, 1, 0, 0, Kind::SetRAck { number: 1 })
 }
 
 pub(crate) fn request_unasked(network: Network) -> Network {
     with_message(
         network,
         1,
+        0,
         0,
         Kind::SetR {
             new: 0,
@@ -164,4 +173,29 @@ pub(crate) fn request_unasked(network: Network) -> Network {
 // no links. Its right number is the last.
 pub(crate) fn no_ring() -> Network {
     with_first(two(), 1_000, Link::To(1), Seq::Is(65_535))
+}
+
+// R2.1, R10.13: the right link of the first node, which is in, leads to the second, which is ins; a
+// request of the second to the first waits and is to be granted.
+pub(crate) fn no_ring_with_a_request() -> Network {
+    let member = linked(2_000, Link::To(0), Link::To(0), Seq::Unset);
+    let joiner = Node {
+        status: Status::Ins,
+        ..member
+    };
+    let first = with_first(two(), 1_000, Link::To(1), Seq::Is(5));
+    let strange = with_node(first, 1, joiner);
+    let mut n = with_message(
+        strange,
+        0,
+        1,
+        0,
+        Kind::SetR {
+            new: 1,
+            expected: 1,
+            number: 0,
+        },
+    );
+    n.waiting = 1;
+    n
 }

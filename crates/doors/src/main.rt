@@ -93,10 +93,13 @@ fn print(text: &[u8], n: u32) {
 
 // One rule of well-formedness broken at a time.
 fn by_rule(sound: Network) {
-    print(b"R2.2, 255 nodes: ", refused(faults::too_many_nodes(sound)));
     print(
-        b"R2.2, 255 messages: ",
-        refused(faults::too_many_messages(sound)),
+        b"R2.2, 33 nodes: ",
+        refused(faults::full_of_nodes(sound, 33)),
+    );
+    print(
+        b"R2.2, 65 messages: ",
+        refused(faults::full_of_messages(sound, 65)),
     );
     print(
         b"R2.3, a node past the count: ",
@@ -174,6 +177,30 @@ fn no_ring() {
     );
 }
 
+// R10.13: such a network is drained all the same, by no more deliveries than its load, which is
+// three, and is left well formed.
+fn drained() {
+    let network = faults::no_ring_with_a_request();
+    let called = engine::drain(network, 9);
+    let left = called.network;
+    let report = called.report;
+    let answer = report.answer;
+    let Answer::Done(reply) = answer else {
+        return;
+    };
+    let Reply::Ran { made, left: _ } = reply else {
+        return;
+    };
+    print(
+        b"R10.13, a drain of such a network, with a request that is granted, makes deliveries: ",
+        made as u32,
+    );
+    print(
+        b"R10.13, of the networks before and after it, so many are well formed: ",
+        few(one_if(network.is_well_formed())) + few(one_if(left.is_well_formed())),
+    );
+}
+
 // R4.2: the word of the inserted nodes, and its ones.
 fn members(network: Network) {
     let answer = engine::inserted(network);
@@ -217,12 +244,21 @@ fn main() {
         b"doors that refuse 6 a well-formed network: ",
         refused(sound),
     );
+    print(
+        b"the same with 32 nodes: ",
+        refused(faults::full_of_nodes(sound, 32)),
+    );
+    print(
+        b"the same with 64 messages: ",
+        refused(faults::full_of_messages(sound, 64)),
+    );
     io::write_all(
         1,
         b"doors that refuse 6 the same network with one rule broken:\n",
     );
     by_rule(sound);
     no_ring();
+    drained();
     members(sound);
     let count = by_chance();
     print(b"networks made by chance: ", DRAWN);
