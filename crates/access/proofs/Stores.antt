@@ -17,21 +17,21 @@ use Rattle.network.specs.Arrays.{vacantNode, vacantMessage, filled, held}
 use Rattle.access.specs.Changes.{placed, added, closed, queued, allPosted}
 use Rattle.access.proofs.Shift.{length-without}
 
--- ---- a list that is filled up with a blank
-module _ {A : Type 0} (n : ℕ) (blank : A) where
-  blanks-from : (k : ℕ) → k < n → replicate (n - k) blank ≡ blank ∷ replicate (n - suc k) blank
-  blanks-from k l = let e : n - k ≡ suc (n - suc k) = omega arith in rw e
+-- ---- a list that is filled up with what is vacant
+module _ {A : Type 0} (n : ℕ) (vacant : A) where
+  vacant-from : (k : ℕ) → k < n → replicate (n - k) vacant ≡ vacant ∷ replicate (n - suc k) vacant
+  vacant-from k l = let e : n - k ≡ suc (n - suc k) = omega arith in rw e
 
-  filled-set : (l : List A) (i : ℕ) (a : A) → i < length l → set (filled n blank l) i a ≡ filled n blank (set l i a)
+  filled-set : (l : List A) (i : ℕ) (a : A) → i < length l → set (filled n vacant l) i a ≡ filled n vacant (set l i a)
   filled-set l i a k = rw (set-append-left l _ i a k, length-set)
 
-  filled-more : (l : List A) (a : A) → length l < n → set (filled n blank l) (length l) a ≡ filled n blank (l ++ (a ∷ []))
+  filled-more : (l : List A) (a : A) → length l < n → set (filled n vacant l) (length l) a ≡ filled n vacant (l ++ (a ∷ []))
   filled-more l a k =
       let one-more : n - length (l ++ (a ∷ [])) ≡ n - suc (length l) = simp length-append (omega arith) in
-      rw (blanks-from (length l) k, set-append-seam, one-more, append-assoc)
+      rw (vacant-from (length l) k, set-append-seam, one-more, append-assoc)
 
-  -- one element less, and a blank more
-  filled-less : (l m : List A) → length l ≡ suc (length m) → length l ≤ n → m ++ blank ∷ replicate (n - length l) blank ≡ filled n blank m
+  -- one element less, and a vacant one more
+  filled-less : (l m : List A) → length l ≡ suc (length m) → length l ≤ n → m ++ vacant ∷ replicate (n - length l) vacant ≡ filled n vacant m
   filled-less l m e k =
       let one-less : n - length m ≡ suc (n - length l) = omega arith in
       rw one-less

@@ -10,4 +10,4 @@ use Rattle.cases.specs.Single.{single}
 
 pub holds : AllHold single
 unfolding between firstSeq lastSeq nextSeq newer hasNext cappedNext nodeFits messageFits wellFormed deliverable peerFits grants createOf joinOf leaveOf receiveOf
-holds = (refl, (refl, (refl, (refl, (refl, (refl, (refl, (refl, (refl, (refl, (refl, (refl, (refl, (refl, (refl, (refl, (refl, (refl, (refl, (refl, (refl, (refl, (refl, (refl, (refl, (refl, (refl, (refl, (refl, (refl, tt))))))))))))))))))))))))))))))
+holds = (refl, (refl, (refl, (refl, (refl, (refl, (refl, (refl, (refl, (refl, (refl, (refl, (refl, (refl, (refl, (refl, (refl, (refl, (refl, (refl, (refl, (refl, (refl, (refl, (refl, (refl, (refl, (refl, (refl, (refl, (refl, tt)))))))))))))))))))))))))))))))

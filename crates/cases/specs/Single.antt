@@ -1,6 +1,6 @@
--- Rows of our own beside the marked ones: what a single node's step does and refuses where no
--- script can show it, since a network is well formed and hands in its own nodes and keys.
--- `proofs/Single.antt` proves the whole table. Definitions only.
+-- R1.4, R5.1, R5.2, R5.4, R5.5, R5.9, R5.10, R5.11, R5.13, R5.14, R6.4, R6.12: rows of our own
+-- beside the marked ones, of what a single node's step does and refuses where no script can show it,
+-- since a network is well formed and hands in its own nodes and keys. `proofs/Single.antt` proves the whole table. Definitions only.
 use mathlib.Core.List.{List, [], _∷_}
 use Prim.Native.Nat.{ℕ}
 use Rattle.refusal.specs.Code.{plain}
@@ -27,8 +27,8 @@ numbered status rseq = record { status = status; key = 1_000; left = To 1; right
 abbrev pub peer : ℕ → ℕ → Peer
 peer number key = record { number = number; key = key }
 
--- a node of another network, which has 33 nodes or more; and one that is in and lacks a link or its
--- right number
+-- a node of another network, which has 33 nodes or more; one that is ins and lacks a link; and one
+-- that is in and lacks its right number
 abbrev pub linkedFar : Node
 linkedFar = record { status = In; key = 1_000; left = To 1; right = To 32; lseq = 5; rseq = Is 7 }
 
@@ -40,8 +40,10 @@ unnumbered = record { status = In; key = 1_000; left = To 1; right = To 2; lseq 
 
 abbrev pub single : List Case
 single =
+    -- R1.4: out, with its key, without links and without a right number
+    (declaredOf 1_000 is record { status = Out; key = 1_000; left = Unlinked; right = Unlinked; lseq = 0; rseq = Unset })
     -- R5.1: both links name the node, both numbers are the first; refusal 23 unless it is out
-    (createOf 0 (linked Out) is quiet (record { status = In; key = 1_000; left = To 0; right = To 0; lseq = 0; rseq = Is 0 }) Created)
+    ∷ (createOf 0 (linked Out) is quiet (record { status = In; key = 1_000; left = To 0; right = To 0; lseq = 0; rseq = Is 0 }) Created)
     ∷ (createOf 0 (linked Ins) is refused (linked Ins) (plain 23))
     -- R5.2, R1.5: a second join sends the left number, and keeps the right one; refusals 23 and 24,
     -- and 23 where both hold

@@ -1,9 +1,11 @@
 -- The two functions that take any network where it lies, as one walk: the network is read whole and
 -- handed by value to a function that admits what is asked, and what it gives is the task that the
 -- network is lent on to `in_place::execute` for.
---     door σ τ f       the MIR of such a function: its references are said to point to σ, its second parameter has the type τ, and f admits what is asked.
---                      The generated `function` is this by computation
---     enters           the walk of it, where f gives a task that comes to what is asked (`Admits` of `TaskLaws.antt`)
+--     door σ τ f       the MIR of such a function: its references are said to point to σ, its
+--                      second parameter has the type τ, and f admits what is asked. The generated
+--                      `function` is this by computation
+--     enters           the walk of it, where f gives a task that comes to what is asked (`Admits`
+--                      of `TaskLaws.antt`)
 -- Assumes `Given`.
 use Prim.Native.Nat.{ℕ}
 use mathlib.Core.Path.{refl, ap, _∙_}

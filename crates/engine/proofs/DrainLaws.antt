@@ -37,8 +37,8 @@ use Rattle.ruling.specs.Places.{lowestPlaceFrom, lowestPlace}
 use Rattle.engine.proofs.CallLaws.{same, delivers-here}
 
 -- ---- the arrays that hold well-formed lists
-filled-length : {A : Type 0} (n : ℕ) (blank : A) (l : List A) → length l ≤ n → length (filled n blank l) ≡ n
-filled-length n blank l few = simp (length-append, length-replicate) (omega arith)
+filled-length : {A : Type 0} (n : ℕ) (vacant : A) (l : List A) → length l ≤ n → length (filled n vacant l) ≡ n
+filled-length n vacant l few = simp (length-append, length-replicate) (omega arith)
 
 held-lengths : (s : State) → listsAreWellFormed s ≡ true → Lengths (held s)
 held-lengths s h =

@@ -35,6 +35,6 @@ pub run-owner-found : (calls : List Call) (start serial : ℕ) → IsInserted (h
     → FindsOwner (history calls .state) start serial (ownerOf (run empty calls) start serial)
 run-owner-found calls start serial member ranged = rw (run-owner calls start serial) (owner-found calls start serial member ranged)
 
--- R10.10: no question is answered 31
+-- R10.14: no question is answered 31
 pub never-31 : (calls : List Call) (start serial : ℕ) → ¬ (ownerOf (run empty calls) start serial ≡ no (plain 31))
 never-31 calls start serial = rw (run-owner calls start serial) (always-found calls start serial)

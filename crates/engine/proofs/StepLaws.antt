@@ -159,7 +159,7 @@ module _ (s : State) (w : WellFormed s) where
           → first (roomTests (length (s .messages)) (leaveOf u (nodeAt s u) .posts)) ≡ first ((28 when isFull s && not (alone u (nodeAt s u))) ∷ [])
       by-request clear e = rw (left-posts u (nodeAt s u) clear e, full-by-one (length (s .messages)), e, and-true)
 
-  -- R6.9: 28 of the delivery of a SetR that would be granted
+  -- R6.10: 28 of a delivery, where a SetR is to be granted
   pub deliver-says : (place : ℕ) → place < length (s .messages)
       → first (roomTests (length (s .messages) - 1) (receiving s (messageAt s place) .posts)) ≡ first (deliverRules s place)
   deliver-says place waits = ⊎-elim grantable other (decided (isGrantable s place))

@@ -18,8 +18,9 @@ use Rattle.network.specs.Arrays.{live, wellFormed, held}
 use Rattle.engine.specs.declared.Called.{Called}
 use Rattle.report.specs.declared.Report.{Report}
 
--- ---- the network left behind, the messages posted in their order, and an answer or the reason of
--- a refusal
+-- ---- what comes of a call or a drain
+-- R11.2: the network left behind, the messages posted in their order, and an answer or the reason
+-- of a refusal
 pub record Applied : Type 0 where
   pub network : Network
   pub posts : List Message
@@ -29,7 +30,7 @@ pub record Applied : Type 0 where
 abbrev pub refused : Network → Reason → Applied
 refused n r = record { network = n; posts = []; said = no r }
 
--- what comes of the lists, in arrays
+-- R1.7: what comes of the lists, in arrays
 abbrev pub inArrays : Result → Applied
 inArrays r = record { network = held (r .state); posts = r .posts; said = r .said }
 
@@ -41,20 +42,22 @@ applyOf n call = cond (wellFormed n) (inArrays (applyToLists (live n) call)) (re
 unfoldable pub drainOf : Network → ℕ → Applied
 drainOf n budget = cond (wellFormed n) (inArrays (drainLists (live n) budget)) (refused n (plain 6))
 
--- ---- what the code hands back says all of it but the posts themselves, of which it says how many
--- they are
+-- ---- what the code hands back
+-- R11.2: all of it but the posts themselves, of which it says how many they are
 pub record Counted : Type 0 where
   pub network : Network
   pub posted : ℕ
   pub said : Coded Reply
 
+-- R11.2: what the code must hand back
 abbrev pub counted : Applied → Counted
 counted a = record { network = a .network; posted = length (a .posts); said = a .said }
 
--- a report beside the network that it is of
+-- R11.3: what a report says, beside the network that it is of
 abbrev pub reported : Network → Report → Counted
 reported n r = record { network = n; posted = r .posted; said = answered (r .answer) }
 
+-- R11.3: what a call by value says
 abbrev pub called : Called → Counted
 called c = reported (c .network) (c .report)
 

@@ -9,37 +9,37 @@ use lib.Dec.{eqb, ltb}
 use Rattle.parts.specs.declared.Link.{Link}
 use Rattle.parts.specs.declared.Link.the-variants.{To}
 
--- each of L has a lower key than all that follow it
+-- R10.3: each of L has a lower key than all that follow it
 abbrev pub Ascending : (ℕ → ℕ) → List ℕ → Type 0
 Ascending key [] = Unit {0}
 Ascending key (a ∷ l) = ((b : ℕ) → List·Memᴰ b l → key a < key b) × Ascending key l
 
--- the first of l, or z where l is empty
+-- R10.3: the first of l, or z where l is empty
 abbrev pub first : List ℕ → ℕ → ℕ
 first [] z = z
 first (a ∷ l) z = a
 
--- each of l has a right link to the next of l, and the last of l has one to z
+-- R10.3: each of l has a right link to the next of l, and the last of l has one to z
 abbrev pub Trail : (ℕ → Link) → List ℕ → ℕ → Type 0
 Trail right [] z = Unit {0}
 Trail right (a ∷ l) z = (right a ≡ To (first l z)) × Trail right l z
 
--- each of L has a right link to the next of L, and the last of L has one to the first
+-- R10.3: each of L has a right link to the next of L, and the last of L has one to the first
 abbrev pub Links : (ℕ → Link) → List ℕ → Type 0
 Links right L = Trail right L (first L 0)
 
--- L is a ring
+-- R10.3, R10.12: L is a ring
 pub record Ring (key : ℕ → ℕ) (right : ℕ → Link) (L : List ℕ) : Type 0 where
   pub ascending : Ascending key L
   pub links : Links right L
 
 -- ---- a member more, and one less
--- l with v before the first that has a higher key
+-- R10.3, admitted: l with v before the first that has a higher key
 abbrev pub withMember : (ℕ → ℕ) → ℕ → List ℕ → List ℕ
 withMember key v [] = v ∷ []
 withMember key v (a ∷ l) = cond (ltb (key v) (key a)) (v ∷ a ∷ l) (a ∷ withMember key v l)
 
--- all of l but v
+-- R10.3, released: all of l but v
 abbrev pub withoutMember : ℕ → List ℕ → List ℕ
 withoutMember v [] = []
 withoutMember v (a ∷ l) = cond (eqb a v) (withoutMember v l) (a ∷ withoutMember v l)

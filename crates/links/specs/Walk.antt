@@ -9,32 +9,32 @@ use Rattle.predicates.specs.Tests.{count}
 use Rattle.parts.specs.declared.Link.{Link}
 use Rattle.parts.specs.declared.Link.the-variants.{Unlinked, To}
 
--- ---- the walk: R10.5, R10.6 speak of its moves
--- where a link of s leads; s itself where there is none
+-- ---- the walk
+-- R10.5: where a link of s leads; s itself where there is none
 abbrev pub endOf : Link → ℕ → ℕ
 endOf Unlinked s = s
 endOf (To t) s = t
 
--- where one move from s leads: along its right link
+-- R10.5: where one move from s leads, along its right link
 abbrev pub move : (ℕ → Link) → ℕ → ℕ
 move right s = endOf (right s) s
 
--- where k moves from s lead
+-- R10.5: where k moves from s lead
 abbrev pub after : (ℕ → Link) → ℕ → ℕ → ℕ
 after right s zero = s
 after right s (suc k) = after right (move right s) k
 
--- the first k nodes of the walk from s: s, then where 1, 2, .. moves lead
+-- R10.5: the first k nodes of the walk from s: s, then where 1, 2, .. moves lead
 abbrev pub walk : (ℕ → Link) → ℕ → ℕ → List ℕ
 walk right s zero = []
 walk right s (suc k) = s ∷ walk right (move right s) k
 
 -- ---- counting
--- how often m stands in l
+-- R10.5: how often m stands in l
 abbrev pub times : ℕ → List ℕ → ℕ
 times m l = count (λ x. eqb m x) l
 
--- how many of l have a move that does not lead to a higher key
+-- R10.6: how many of l have a move that does not lead to a higher key
 abbrev pub falls : (ℕ → ℕ) → (ℕ → Link) → List ℕ → ℕ
 falls key right l = count (λ x. leb (key (move right x)) (key x)) l
 

@@ -31,31 +31,31 @@ use Rattle.protocol.proofs.Facts.{well-formed as lists-well-formed}
 use Rattle.network.specs.declared.Network.{Network}
 use Rattle.network.specs.Arrays.{vacantNode, vacantMessage, isVacantNode, isVacantMessage, live, wellFormed, filled, held}
 
--- ---- a list that is filled up with a blank
-module _ {A : Type 0} (blank : A) (test : A → Bool) where
-  blanks-pass : (n : ℕ) → test blank ≡ true → every test (replicate n blank) ≡ true
-  blanks-pass zero t = refl
-  blanks-pass (suc n) t = rw t (blanks-pass n t)
+-- ---- a list that is filled up with what is vacant
+module _ {A : Type 0} (vacant : A) (test : A → Bool) where
+  vacant-pass : (n : ℕ) → test vacant ≡ true → every test (replicate n vacant) ≡ true
+  vacant-pass zero t = refl
+  vacant-pass (suc n) t = rw t (vacant-pass n t)
 
-  -- where only the blank passes, a list that passes is blank
-  all-blank : ((x : A) → test x ≡ true → x ≡ blank) → (l : List A) → every test l ≡ true → l ≡ replicate (length l) blank
-  all-blank only [] h = refl
-  all-blank only (x ∷ l) h =
+  -- where only what is vacant passes, a list that passes is vacant
+  all-vacant : ((x : A) → test x ≡ true → x ≡ vacant) → (l : List A) → every test l ≡ true → l ≡ replicate (length l) vacant
+  all-vacant only [] h = refl
+  all-vacant only (x ∷ l) h =
       let (first, rest) = both (test x) (every test l) h in
-      λ i. only x first i ∷ all-blank only l rest i
+      λ i. only x first i ∷ all-vacant only l rest i
 
-  -- what fills a list up is blank
-  past-blank : (n : ℕ) (l : List A) → test blank ≡ true → every test (drop (length l) (filled n blank l)) ≡ true
-  past-blank n l t = rw drop-append-seam (blanks-pass (n - length l) t)
+  -- what fills a list up is vacant
+  past-vacant : (n : ℕ) (l : List A) → test vacant ≡ true → every test (drop (length l) (filled n vacant l)) ≡ true
+  past-vacant n l t = rw drop-append-seam (vacant-pass (n - length l) t)
 
-  -- an array whose places from k on are blank is its first k elements, filled up
-  refilled : ((x : A) → test x ≡ true → x ≡ blank) → (l : List A) (n k : ℕ) → length l ≡ n → k ≤ n → every test (drop k l) ≡ true → filled n blank (take k l) ≡ l
+  -- an array whose places from k on are vacant is its first k elements, filled up
+  refilled : ((x : A) → test x ≡ true → x ≡ vacant) → (l : List A) (n k : ℕ) → length l ≡ n → k ≤ n → every test (drop k l) ≡ true → filled n vacant (take k l) ≡ l
   refilled only l n k full few h =
       let front : length (take k l) ≡ k = length-take-le k l (omega arith) in
       let rest : n - k ≡ length (drop k l) = rw length-drop (omega arith) in
-      rw (front, rest, ← all-blank only (drop k l) h) (take-append-drop k l)
+      rw (front, rest, ← all-vacant only (drop k l) h) (take-append-drop k l)
 
--- ---- the tests of every field pass the blanks, and nothing else
+-- ---- the tests of every field pass what is vacant, and nothing else
 no-link : (link : Link) → not (linked link) ≡ true → link ≡ Unlinked
 no-link Unlinked t = refl
 no-link (To n) t = impossible t
@@ -105,8 +105,8 @@ held-well-formed s h =
     let w = lists-well-formed s h in
     let few = le-leb (length (s .nodes)) capacity (w .few-nodes) in
     let little = le-leb (length (s .messages)) queueLimit (w .few-messages) in
-    let nodes = past-blank vacantNode isVacantNode capacity (s .nodes) node-is-vacant in
-    let messages = past-blank vacantMessage isVacantMessage queueLimit (s .messages) refl in
+    let nodes = past-vacant vacantNode isVacantNode capacity (s .nodes) node-is-vacant in
+    let messages = past-vacant vacantMessage isVacantMessage queueLimit (s .messages) refl in
     let lists : listsAreWellFormed (live (held s)) ≡ true = rw (live-held s) h in
     simp (few, little, nodes, messages, lists)
 

@@ -1,5 +1,5 @@
 -- An array walked place by place: what a walk stores, and what a test of every place says of the
--- array's list, where the first places hold things and the rest hold blanks. By going up to the
+-- array's list, where the first places hold things and the rest are vacant. By going up to the
 -- bound, one place more each time. Assumes nothing.
 use mathlib.Core.Path.{_≡_, refl, ap, _∙_}
 use mathlib.Core.Bool.{Bool, true, _&&_, and-true, and-assoc}
@@ -69,15 +69,15 @@ module _ {A : Type 0} (test : A → Bool) (d : A) where
 pub count-longer : {A : Type 0} (test : A → Bool) (l : List A) (i n : ℕ) → i ≤ n → count test (take i l) ≤ count test (take n l)
 count-longer test l i n k = rw (take-take i n l k) at (count-more test (take n l) i)
 
--- ---- an array of n things, and blanks past them
-module _ {A : Type 0} (fits vacant : A → Bool) (blank : A) (l : List A) (n : ℕ) where
-  held-places : n ≤ length l → everyBelow n (placeFits fits vacant blank l n) ≡ every fits (take n l)
-  held-places k = below-agree n _ (λ i. fits (getD l i blank)) (λ i j. rw (lt-ltb i n j)) ∙ every-below fits blank l n k
+-- ---- an array of n things, and vacant places past them
+module _ {A : Type 0} (fits isVacant : A → Bool) (vacant : A) (l : List A) (n : ℕ) where
+  held-places : n ≤ length l → everyBelow n (placeFits fits isVacant vacant l n) ≡ every fits (take n l)
+  held-places k = below-agree n _ (λ i. fits (getD l i vacant)) (λ i j. rw (lt-ltb i n j)) ∙ every-below fits vacant l n k
 
-  vacant-places : everyBelow (length l - n) (λ i. placeFits fits vacant blank l n (n + i)) ≡ every vacant (drop n l)
+  vacant-places : everyBelow (length l - n) (λ i. placeFits fits isVacant vacant l n (n + i)) ≡ every isVacant (drop n l)
   vacant-places =
-      below-agree (length l - n) _ (λ i. vacant (getD (drop n l) i blank)) (λ i j. rw (le-ltb (n + i) n (omega arith), getD-drop))
-      ∙ (rw length-drop at (every-element vacant blank (drop n l)))
+      below-agree (length l - n) _ (λ i. isVacant (getD (drop n l) i vacant)) (λ i j. rw (le-ltb (n + i) n (omega arith), getD-drop))
+      ∙ (rw length-drop at (every-element isVacant vacant (drop n l)))
 
-  pub every-place : n ≤ length l → everyPlace fits vacant blank l n ≡ (every fits (take n l) && every vacant (drop n l))
-  every-place k = rw (below-parts (placeFits fits vacant blank l n) n (length l) k, held-places k, vacant-places)
+  pub every-place : n ≤ length l → everyPlace fits isVacant vacant l n ≡ (every fits (take n l) && every isVacant (drop n l))
+  every-place k = rw (below-parts (placeFits fits isVacant vacant l n) n (length l) k, held-places k, vacant-places)

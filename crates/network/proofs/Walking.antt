@@ -1,9 +1,13 @@
 -- Steps that walks by hand share, each stated once over the function or the type that it is about.
---     returned         a call has returned: its result, the last values of what was passed, and the fact that its contract ensures of them
+--     returned         a call has returned: its result, the last values of what was passed, and the
+--                      fact that its contract ensures of them
 --     by-cases         a step that goes by cases on a test
 --     seen             what a value of a type owns is let go for the type's relation
---     had              what a struct of plain data owns is had for nothing, where its relation holds
---     is-val, at-val, typed    of a struct by value: its machine value, that the relation holds at it, and that it is of the struct's MIR type
+--     had              what a struct of plain data owns is had for nothing, where its relation
+--                      holds
+--     is-val, at-val, typed
+--                      of a struct by value: its machine value, that the relation holds at it, and
+--                      that it is of the struct's MIR type
 -- Assumes `Given`.
 use mathlib.Core.Path.{_≡_, refl, ap, subst}
 use mathlib.Core.Bool.{Bool, true, false}

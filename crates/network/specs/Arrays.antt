@@ -17,15 +17,15 @@ use Rattle.protocol.specs.State.{State, queueLimit, empty as emptyLists, wellFo
 use Rattle.network.specs.declared.Network.{Network}
 
 -- ---- R2.3: what a vacant place holds (paper 01: the blank)
--- a node as it begins (R1.4), with the key 0
+-- R2.3: a node as it begins (R1.4), with the key 0
 abbrev pub vacantNode : Node
 vacantNode = declaredOf 0
 
--- a SetRNak from node 0 to node 0
+-- R2.3: a SetRNak from node 0 to node 0
 abbrev pub vacantMessage : Message
 vacantMessage = setRNak 0 0
 
--- whether a node is the blank: every field of it
+-- R2.3: whether a node is the vacant one, field by field
 abbrev pub isVacantNode : Node → Bool
 isVacantNode u =
     isOut (u .status)
@@ -33,7 +33,7 @@ isVacantNode u =
     && ((not (linked (u .left)) && not (linked (u .right)))
     && (same (u .lseq) firstSeq && not (numbered (u .rseq)))))
 
--- whether a message is the blank: every field of it
+-- R2.3: whether a message is the vacant one, field by field
 abbrev pub isVacantMessage : Message → Bool
 isVacantMessage m = eqb (m .sender) 0 && (eqb (m .to) 0 && isNak (m .kind))
 
@@ -50,9 +50,9 @@ wellFormed n =
     && listsAreWellFormed (live n))
 
 -- ---- the arrays that hold given lists
--- l, then the blank in each place up to n
+-- R2.3: l, then what is vacant in each place up to n
 abbrev pub filled : {A : Type 0} → ℕ → A → List A → List A
-filled n blank l = l ++ replicate (n - length l) blank
+filled n vacant l = l ++ replicate (n - length l) vacant
 
 -- R1.7: 32 places for nodes and 64 for messages
 abbrev pub held : State → Network

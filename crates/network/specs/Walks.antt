@@ -15,10 +15,10 @@ use Rattle.parts.specs.declared.Message.{Message}
 
 -- a place of an array l that holds n things: before n it passes one test, and past it another
 abbrev pub placeFits : {A : Type 0} → (A → Bool) → (A → Bool) → A → List A → ℕ → ℕ → Bool
-placeFits fits vacant blank l n i = cond (ltb i n) (fits (getD l i blank)) (vacant (getD l i blank))
+placeFits fits isVacant vacant l n i = cond (ltb i n) (fits (getD l i vacant)) (isVacant (getD l i vacant))
 
 abbrev pub everyPlace : {A : Type 0} → (A → Bool) → (A → Bool) → A → List A → ℕ → Bool
-everyPlace fits vacant blank l n = everyBelow (length l) (placeFits fits vacant blank l n)
+everyPlace fits isVacant vacant l n = everyBelow (length l) (placeFits fits isVacant vacant l n)
 
 -- whose exchange a message is: the sender's of a request, the addressee's of an answer
 abbrev pub partyBy : Kind → Message → Link

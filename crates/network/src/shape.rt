@@ -40,7 +40,7 @@ fn is_vacant_message(message: Message) -> bool
     (message.sender == 0) & ((message.to == 0) & kind.is_nak())
 }
 
-// A place among the nodes: before the count a node that fits, and past it the blank.
+// A place among the nodes: before the count a node that fits, and past it a vacant one.
 fn node_place_fits(node: Node, declared: bool, count: u8) -> bool
     ensures { λ r. ⌜ r ≡ cond declared (nodeFits count node) (isVacantNode node) ⌝ }
 {

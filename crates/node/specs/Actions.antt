@@ -42,7 +42,7 @@ abbrev pub coded : Verdict → Coded Outcome
 coded (Done o) = done o
 coded (Refused r) = no (reason r)
 
--- what the code's answer says
+-- R1.9, R11.3: what the code's answer says
 abbrev pub effect : Step → Effect
 effect s = record { node = s .node; posts = posted (s .posts); said = coded (s .verdict) }
 
@@ -50,11 +50,11 @@ effect s = record { node = s .node; posts = posted (s .posts); said = coded (s .
 abbrev pub refused : Node → Reason → Effect
 refused u r = record { node = u; posts = []; said = no r }
 
--- a node that stays, or moves on, with no message
+-- R1.9: a node that stays, or moves on, with no message
 abbrev pub quiet : Node → Outcome → Effect
 quiet u o = record { node = u; posts = []; said = done o }
 
--- a node that posts one message
+-- R1.9: a node that posts one message
 abbrev pub posting : Node → Message → Outcome → Effect
 posting u m o = record { node = u; posts = m ∷ []; said = done o }
 
@@ -73,7 +73,6 @@ setL sender to left number = record { sender = sender; to = to; kind = SetL left
 
 -- ---- R1.5: a node changed, by one setter for its status and one for each link with its number,
 -- which leave all other fields as they were
--- R1.5: a change of status leaves the other fields
 abbrev pub withStatus : Status → Node → Node
 withStatus s u = record { status = s; key = u .key; left = u .left; right = u .right; lseq = u .lseq; rseq = u .rseq }
 
@@ -96,6 +95,7 @@ created me u = withStatus In (withRight (To me) (Is firstSeq) (withLeft (To me) 
 abbrev pub creating : ℕ → Node → Effect
 creating me u = quiet (created me u) Created
 
+-- R6.1: its rules, and then what it does
 unfoldable pub createOf : ℕ → Node → Effect
 createOf me u = ruled (createRules me u) (refused u) (creating me u)
 
@@ -120,10 +120,11 @@ joinRequest me u p q = setR me (p .number) me (q .number) (u .lseq)
 abbrev pub asking : ℕ → Node → Peer → Peer → Effect
 asking me u p q = posting (joining u p q) (joinRequest me u p q) Waiting
 
--- R6.1: past the test of node and neighbours; and with it
+-- R6.1: past the test of node and neighbours
 unfoldable pub joinUnchecked : ℕ → Node → Peer → Peer → Effect
 joinUnchecked me u p q = ruled (joinOwnRules u p q) (refused u) (asking me u p q)
 
+-- R6.1: with that test
 unfoldable pub joinOf : ℕ → Node → Peer → Peer → Effect
 joinOf me u p q = ruled (joinRules me u p q) (refused u) (asking me u p q)
 
@@ -151,10 +152,11 @@ leaving me u =
     (quiet (withStatus Out u) LeftAlone)
     (posting (withStatus Del u) (leaveRequest me u (nextSeq (seqOf (u .rseq)))) Waiting)
 
--- R6.1: past the test of the node; and with it
+-- R6.1: past the test of the node
 unfoldable pub leaveUnchecked : ℕ → Node → Effect
 leaveUnchecked me u = ruled (leaveOwnRules me u) (refused u) (leaving me u)
 
+-- R6.1: with that test
 unfoldable pub leaveOf : ℕ → Node → Effect
 leaveOf me u = ruled (leaveRules me u) (refused u) (leaving me u)
 
@@ -232,7 +234,7 @@ abbrev pub onSetL : Node → ℕ → Number → Effect
 onSetL u left number = cond (newer number (u .lseq)) (quiet (leftSet u left number) LeftSet) (quiet u LeftOld)
 
 -- ---- receiving a message
--- what a node that is not out does with each kind
+-- R5.5, R5.9, R5.10, R5.11, R5.12, R5.14: what a node that is not out does with each kind
 abbrev pub onKind : ℕ → Node → ℕ → Kind → Effect
 onKind me u v (SetR new expected number) = onSetR me u v new expected number
 onKind me u v (SetRAck number) = onSetRAck (u .status) u number
@@ -247,5 +249,6 @@ actOf me u v kind = cond (isOut (u .status)) (quiet u Dropped) (onKind me u v ki
 abbrev pub receiveRules : ℕ → Node → Message → List Rule
 receiveRules me u m = (6 when not (wellFormed me u && deliverable me m)) ∷ []
 
+-- R6.1: its rule, and then what the node does
 unfoldable pub receiveOf : ℕ → Node → Message → Effect
 receiveOf me u m = ruled (receiveRules me u m) (refused u) (actOf me u (m .sender) (m .kind))

@@ -1,5 +1,5 @@
--- No rules stand here: it is what the code posts in a step, as the list of its messages in their
--- order. Definitions only.
+-- R1.9, R11.3: what the code posts in a step, read as the list of its messages in their order.
+-- Definitions only.
 use mathlib.Core.List.{List, [], _∷_}
 use Rattle.parts.specs.declared.Message.{Message}
 use Rattle.parts.specs.declared.Posts.{Posts}

@@ -13,7 +13,7 @@ use Rattle.parts.specs.declared.Seq.the-variants.{Unset, Is}
 use Rattle.parts.specs.declared.Kind.{Kind}
 use Rattle.parts.specs.declared.Kind.the-variants.{SetR, SetRAck, SetRNak, SetL}
 
--- ---- a status
+-- ---- R1.3: a status
 abbrev pub isOut : Status → Bool
 isOut Out = true
 isOut Ins = false
@@ -33,7 +33,7 @@ isInOrDel Ins = false
 isInOrDel In = true
 isInOrDel Del = true
 
--- ---- a link
+-- ---- R1.3: a link
 abbrev pub linked : Link → Bool
 linked Unlinked = false
 linked (To n) = true
@@ -47,7 +47,7 @@ abbrev pub target : Link → ℕ
 target Unlinked = 0
 target (To n) = n
 
--- ---- a right number, which a node may lack
+-- ---- R1.3: a right number, which a node may lack
 abbrev pub numbered : Seq → Bool
 numbered Unset = false
 numbered (Is n) = true
@@ -57,7 +57,7 @@ abbrev pub seqOf : Seq → Number
 seqOf Unset = firstSeq
 seqOf (Is n) = n
 
--- ---- a kind of message
+-- ---- R1.6: a kind of message
 -- R1.6: a request is a SetR
 abbrev pub isRequest : Kind → Bool
 isRequest (SetR new expected number) = true

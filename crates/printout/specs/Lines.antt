@@ -9,7 +9,7 @@ use Rattle.words.specs.Words.{outcomeWord}
 use Rattle.protocol.specs.declared.Reply.{Reply}
 use Rattle.protocol.specs.declared.Reply.the-variants.{Declared, Stepped, Owner, Ran, Inserted}
 
--- ---- the words of an answer
+-- ---- R9.7: the words of an answer
 -- a word and a number, and then another word and another number
 abbrev pub pair : List ℕ → ℕ → List ℕ → ℕ → List ℕ
 pair word n word' n' = word ++ decimal n ++ word' ++ decimal n'

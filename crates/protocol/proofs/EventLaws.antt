@@ -34,7 +34,7 @@ use Rattle.protocol.proofs.Changes.{Act, drops, lets-in, lets-go, denie
 use Rattle.protocol.proofs.Changes.{Accepted, declares, creates, asks, goes-alone, leaves, delivers, Change, refuses, accepts}
 use Rattle.protocol.proofs.Cases.{change}
 use Rattle.protocol.proofs.Drains.{run-append}
-use Rattle.protocol.proofs.Invariant.{Order, Invariant}
+use Rattle.protocol.proofs.Invariant.{Round, Invariant}
 use Rattle.protocol.proofs.Frames.{settled-in, member-same, member-not-out}
 use Rattle.protocol.proofs.Grants.{Grant, granting, is-joiner, to-join, not-yet-in, joiner-right, is-leaver, to-leave, still-in}
 use Rattle.protocol.proofs.Steps.{put-true, put-false, Good, After, event-refused, granting-of, granted-event, all-out}
@@ -43,7 +43,7 @@ use Rattle.protocol.proofs.Theorem.{good-next, good, listed-inserted}
 -- ---- the order of a state
 -- what the invariant says of the inserted nodes of s
 abbrev Holds : State → (ℕ → Bool) → Type 0
-Holds s told = Order (nodeAt s) (s .messages) told
+Holds s told = Round (nodeAt s) (s .messages) told
 
 ordered : (s : State) {told : ℕ → Bool} (o : Holds s told) → Ordered s (o .order)
 ordered s o = record { ring = o .ring; members = listed-inserted s o }

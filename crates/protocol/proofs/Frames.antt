@@ -18,7 +18,7 @@ use Rattle.node.specs.declared.Node.{Node}
 use Rattle.node.specs.Actions.{setRAck, setL}
 use Rattle.protocol.specs.State.{isAckTo, isInserted}
 use Rattle.protocol.proofs.Fields.{statusOf}
-use Rattle.protocol.proofs.Invariant.{isMember, Member, Request, Keeps, stored, coming, LeftLink, Order}
+use Rattle.protocol.proofs.Invariant.{isMember, Member, Request, Keeps, stored, coming, LeftLink, Round}
 
 -- a status that waits for nothing
 abbrev pub Settled : Status → Type 0
@@ -71,7 +71,7 @@ pub record SameRing (N : ℕ → Node) (M : List Message) (N′ : ℕ → Node) 
   pub keeps : (v : ℕ) (R : Number) → Member N M v → Keeps N′ M′ v R → Keeps N M v R
   pub lefts : (v u : ℕ) (R : Number) → Member N M u → LeftLink N M v u R → LeftLink N′ M′ v u R
 
-pub same-order : {N N′ : ℕ → Node} {M M′ : List Message} {told : ℕ → Bool} → SameRing N M N′ M′ → Order N M told → Order N′ M′ told
+pub same-order : {N N′ : ℕ → Node} {M M′ : List Message} {told : ℕ → Bool} → SameRing N M N′ M′ → Round N M told → Round N′ M′ told
 same-order {N} {N′} {M} {M′} same o = record {
   order = o .order;
   ring = ring-kept (o .ring) (λ m i. same .key m (o .members m .0 i)) (λ m i. same .right m (o .members m .0 i));

@@ -72,7 +72,7 @@ pub record LeftLink (N : ℕ → Node) (M : List Message) (v u : ℕ) (R : Numbe
   pub awaited : N u .lseq ≢ R → (w : ℕ) × (a : ℕ) × (setL w u a R ∈ M)
 
 -- ---- the ring, and its left links
-pub record Order (N : ℕ → Node) (M : List Message) (told : ℕ → Bool) : Type 0 where
+pub record Round (N : ℕ → Node) (M : List Message) (told : ℕ → Bool) : Type 0 where
   pub order : List ℕ
   pub ring : Ring (λ u. N u .key) (λ u. N u .right) order
   pub members : (u : ℕ) → (u ∈ order) ↔ Member N M u
@@ -81,4 +81,4 @@ pub record Order (N : ℕ → Node) (M : List Message) (told : ℕ → Bool) : T
 
 pub record Invariant (N : ℕ → Node) (M : List Message) (told joins : ℕ → Bool) : Type 0 where
   pub exchanges : Exchanges N M joins
-  pub order : Order N M told
+  pub order : Round N M told

@@ -35,7 +35,7 @@ use Rattle.protocol.proofs.Cases.{change}
 use Rattle.protocol.proofs.Numbers.{numbers-tested, numbers-kept}
 use Rattle.protocol.proofs.Kept.{kept}
 use Rattle.protocol.proofs.Lively.{lively}
-use Rattle.protocol.proofs.Invariant.{Member, Keeps, stored, coming, LeftLink, Order, Invariant}
+use Rattle.protocol.proofs.Invariant.{Member, Keeps, stored, coming, LeftLink, Round, Invariant}
 use Rattle.protocol.proofs.Frames.{settled-in, settled-out, ins-not-del, member-not-out}
 use Rattle.protocol.proofs.Steps.{Good, call-holds}
 
@@ -123,7 +123,7 @@ module _ {s : State} {told joins : ℕ → Bool} (w : WellFormed s) (inv : Invar
       go R link (no d) = let (x, a, i) = link .awaited d in absurd (not-both (eq-eqb u u refl) (none-in (isNoticeTo u) quiet i))
 
 -- the list that is the ring is that of the inserted nodes
-pub listed-inserted : (s : State) {told : ℕ → Bool} (o : Order (nodeAt s) (s .messages) told) (u : ℕ) → (u ∈ o .order) ↔ Inserted s u
+pub listed-inserted : (s : State) {told : ℕ → Bool} (o : Round (nodeAt s) (s .messages) told) (u : ℕ) → (u ∈ o .order) ↔ Inserted s u
 unfolding inserted
 listed-inserted s o u = (λ i. holds (o .members u .0 i), λ t. o .members u .1 (is-true _ t))
 

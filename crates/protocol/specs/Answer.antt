@@ -1,5 +1,5 @@
 -- R11.3, what an answer of the code says: its reply, or the reason of its refusal. Every contract
--- that answers is read through `answered` and nothing else. Definitions only.
+-- of a function that gives an `Answer` reads it by `answered`. Definitions only.
 use mathlib.Core.Bool.{Bool, true, false}
 use Rattle.refusal.specs.Code.{reason}
 use Rattle.refusal.specs.Rules.{Coded, done, no}
@@ -10,11 +10,12 @@ use Rattle.protocol.specs.declared.Reply.the-variants.{Declared, Stepped
 use Rattle.protocol.specs.declared.Answer.{Answer}
 use Rattle.protocol.specs.declared.Answer.the-variants.{Done, Refused}
 
+-- R11.3: a reply, or the reason of a refusal
 abbrev pub answered : Answer → Coded Reply
 answered (Done r) = done r
 answered (Refused r) = no (reason r)
 
--- ---- tests of what is said
+-- ---- R10.2: tests of what is said
 abbrev pub accepted : Coded Reply → Bool
 accepted (done r) = true
 accepted (no r) = false

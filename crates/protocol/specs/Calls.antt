@@ -24,8 +24,8 @@ use Rattle.protocol.specs.declared.Reply.{Reply}
 use Rattle.protocol.specs.declared.Reply.the-variants.{Declared, Stepped}
 use Rattle.protocol.specs.State.{State, queueLimit, declared, nodeAt, statusAt, keyAt, noticeWaits, wellFormed}
 
--- ---- what a call comes to: the network left behind, the messages posted in their order, and an
--- answer or the reason of a refusal
+-- ---- R11.2: what a call comes to, which is the network left behind, the messages posted in their
+-- order, and an answer or the reason of a refusal
 pub record Result : Type 0 where
   pub state : State
   pub posts : List Message
@@ -35,7 +35,7 @@ pub record Result : Type 0 where
 abbrev pub refused : State → Reason → Result
 refused s r = record { state = s; posts = []; said = no r }
 
--- what the network says of a node's step
+-- R6.6, R6.7, R6.8, R6.9: what a node's step says is what the network says
 abbrev pub stepped : Coded Outcome → Coded Reply
 stepped (done o) = done (Stepped o)
 stepped (no r) = no r
@@ -130,7 +130,7 @@ abbrev pub leaving : State → ℕ → Result
 leaving s u = commit s u (s .messages) (leaveOf u (nodeAt s u))
 
 -- ---- deliver
--- past the last message: a place that 29 refuses
+-- R6.9: the message at a place; past the last one there is none, and 29 refuses
 abbrev pub messageAt : State → ℕ → Message
 messageAt s place = getD (s .messages) place (setRNak 0 0)
 
@@ -150,7 +150,7 @@ deliverRules s place =
     ∷ (29 when not (ltb place (length (s .messages))))
     ∷ []
 
--- what the addressee does: it never says 6 on a well-formed network (`received`,
+-- R6.9: what the addressee does; it never says 6 on a well-formed network (`received`,
 -- `proofs/Cases.antt`)
 abbrev pub receiving : State → Message → Effect
 receiving s m = receiveOf (m .to) (nodeAt s (m .to)) m
@@ -159,7 +159,8 @@ receiving s m = receiveOf (m .to) (nodeAt s (m .to)) m
 abbrev pub delivering : State → ℕ → Result
 delivering s place = commit s (messageAt s place .to) (without place (s .messages)) (receiving s (messageAt s place))
 
--- ---- any call: R6.3, its rules stand in this order
+-- ---- any call
+-- R6.3: the rules of any call stand in this order
 abbrev pub rulesOf : State → Call → List Rule
 rulesOf s (Order (Declare key)) = declareRules s key
 rulesOf s (Order (Create u)) = createRules s u
@@ -167,6 +168,7 @@ rulesOf s (Order (Join u p q)) = joinRules s u p q
 rulesOf s (Order (Leave u)) = leaveRules s u
 rulesOf s (Deliver place) = deliverRules s place
 
+-- R6.5, R6.6, R6.7, R6.8, R6.9: what a call does that no rule refuses
 abbrev pub effectOf : State → Call → Result
 effectOf s (Order (Declare key)) = declaring s key
 effectOf s (Order (Create u)) = creating s u

@@ -18,6 +18,7 @@ use Rattle.protocol.specs.Calls.{applyOf}
 use Rattle.protocol.specs.History.{History, history}
 use Rattle.protocol.specs.Answer.{accepted}
 
+-- R4.1: u is inserted
 abbrev pub Inserted : State → ℕ → Type 0
 Inserted s u = T (inserted s u)
 
@@ -36,7 +37,7 @@ delivered s (place ∷ places) = bit (accepted (applyOf s (Deliver place) .said)
 abbrev pub load : List Message → ℕ
 load ms = 3 * count (λ m. isRequest (m .kind)) ms + count (λ m. not (isRequest (m .kind))) ms
 
--- ---- what holds of every well-formed network, ring or not
+-- ---- R10.13: what holds of every well-formed network, ring or not
 pub record Lively (s : State) : Type 0 where
   -- R10.8: while a message waits, a delivery at some place is not refused
   pub progress : 0 < length (s .messages) → (place : ℕ) × Delivers s place
@@ -49,10 +50,11 @@ pub record Steady (s : State) : Type 0 where
   pub kept : (call : Call) → T (wellFormed (applyOf s call .state))
   pub lively : Lively s
 
+-- R10.13: of every well-formed network
 abbrev pub SteadyClaim : Type 0
 SteadyClaim = (s : State) → T (wellFormed s) → Steady s
 
--- ---- the ring of the inserted nodes
+-- ---- R10.5, R10.6, R10.7: the ring of the inserted nodes
 pub record Ringed (s : State) : Type 0 where
   -- R10.5: from each inserted node the right links lead once through each inserted node, through no
   -- other, and home;
@@ -63,7 +65,7 @@ pub record Ringed (s : State) : Type 0 where
   -- R10.7: and where no SetL to a node waits, its left link names that one
   pub left : (u p : ℕ) → Inserted s u → noticeWaits s u ≡ false → Inserted s p → rightAt s p ≡ To u → leftAt s u ≡ To p
 
--- ---- what holds after a list of calls
+-- ---- R10.1: what holds after a list of calls
 pub record Sound (h : History) : Type 0 where
   -- R10.10: the network is well formed, and its numbers are such as the fields can hold
   pub well-formed : T (wellFormed (h .state))

@@ -19,13 +19,15 @@ abbrev pub lowestFrom : State → ℕ → ℕ → Option ℕ
 lowestFrom s place zero = none
 lowestFrom s place (suc k) = cond (accepted (applyOf s (Deliver place) .said)) (some place) (lowestFrom s (suc place) k)
 
+-- R8.1: the lowest of all places
 abbrev pub lowest : State → Option ℕ
 lowest s = lowestFrom s 0 (length (s .messages))
 
+-- R8.1: the network after one delivery
 abbrev pub afterDelivery : State → ℕ → State
 afterDelivery s place = applyOf s (Deliver place) .state
 
--- the place, and those of what is still to be done after a delivery there
+-- R8.1: the place, and those of what is still to be done after a delivery there
 abbrev pub placesFrom : (State → List ℕ) → State → Option ℕ → List ℕ
 placesFrom rest s none = []
 placesFrom rest s (some place) = place ∷ rest (afterDelivery s place)
@@ -35,12 +37,12 @@ abbrev pub places : ℕ → State → List ℕ
 places zero s = []
 places (suc budget) s = placesFrom (places budget) s (lowest s)
 
--- the network after deliveries at these places
+-- R8.1: the network after deliveries at these places
 abbrev pub deliverAll : State → List ℕ → State
 deliverAll s [] = s
 deliverAll s (place ∷ rest) = deliverAll (afterDelivery s place) rest
 
--- what these deliveries post, in turn
+-- R8.1, R9.8: what these deliveries post, in turn
 abbrev pub postsOfAll : State → List ℕ → List Message
 postsOfAll s [] = []
 postsOfAll s (place ∷ rest) = applyOf s (Deliver place) .posts ++ postsOfAll (afterDelivery s place) rest

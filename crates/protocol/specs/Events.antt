@@ -41,7 +41,7 @@ eventOf s joins (Order (Join u p q)) said = stays
 eventOf s joins (Order (Leave u)) said = cond (says isLeftAlone said) (emptied u) stays
 eventOf s joins (Deliver place) said = cond (says isGranted said) (grantOf joins (messageAt s place)) stays
 
--- ---- who is told inserted
+-- ---- R10.2: who is told inserted
 -- f with b in u's place
 abbrev pub put : (ℕ → Bool) → ℕ → Bool → ℕ → Bool
 put f u b v = cond (eqb v u) b (f v)

@@ -50,8 +50,9 @@ printed =
     ∷ no (plain 29)
     ∷ []
 
--- three nodes; 2 joins between 0 and 1, whose notice of it stays under way while 2 and then 1 leave
--- again; 1 may not join while that notice waits, and then joins with the left number that it has
+-- R5.2, R5.13, refusal 25: three nodes; 2 joins between 0 and 1, whose notice of it stays under way
+-- while 2 and then 1 leave again; 1 may not join while that notice waits, and then joins with the
+-- left number that it has
 abbrev pub lateNotice : List Call
 lateNotice =
     Order (Declare 1_000)

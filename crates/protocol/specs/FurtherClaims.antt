@@ -27,14 +27,14 @@ use Rattle.protocol.specs.Questions.{ownerOf}
 use Rattle.protocol.specs.Drain.{places, deliverAll, drained, drainOf}
 
 -- ---- the owner of a serial
--- u is inserted, and the serial is in [key, key of right link)
+-- R7.4: u is inserted, and the serial is in [key, key of right link)
 pub record Owns (s : State) (serial u : ℕ) : Type 0 where
   pub inserted : Inserted s u
   pub next : ℕ
   pub right : rightAt s u ≡ To next
   pub holds : T (within (keyAt s u) (keyAt s next) serial)
 
--- the answer is a node that so many hops from the start lead to, and it alone owns the serial
+-- R7.4: the answer is a node that so many hops from the start lead to, and it alone owns the serial
 pub record FindsOwner (s : State) (start serial : ℕ) (said : Coded Reply) : Type 0 where
   pub node : ℕ
   pub hops : ℕ
@@ -51,7 +51,7 @@ abbrev pub OwnerClaim : Type 0
 OwnerClaim = (calls : List Call) (start serial : ℕ) → Inserted (history calls .state) start → T (inRange serial)
     → FindsOwner (history calls .state) start serial (ownerOf (history calls .state) start serial)
 
--- R10.10: no question is answered 31
+-- R10.14: no question is answered 31
 abbrev pub AlwaysFound : Type 0
 AlwaysFound = (calls : List Call) (start serial : ℕ) → ¬ (ownerOf (history calls .state) start serial ≡ no (plain 31))
 
@@ -64,6 +64,7 @@ pub record Drains (s : State) (budget : ℕ) : Type 0 where
   pub none-refused : delivered s (places budget s) ≡ length (places budget s)
   pub to-the-end : length (places budget s) < budget → deliverAll s (places budget s) .messages ≡ []
 
+-- R8.1: of every well-formed network, with any budget
 abbrev pub DrainClaim : Type 0
 DrainClaim = (s : State) → T (wellFormed s) → (budget : ℕ) → Drains s budget
 
@@ -73,11 +74,12 @@ pub record IsCalls (calls : List Call) (budget : ℕ) : Type 0 where
   pub state : drainOf (history calls .state) budget .state ≡ history (calls ++ map Deliver (places budget (history calls .state))) .state
   pub posts : length (drainOf (history calls .state) budget .posts) ≡ posted (history calls .state) (map Deliver (places budget (history calls .state)))
 
+-- R10.1: after any list of calls, with any budget
 abbrev pub DrainIsCalls : Type 0
 DrainIsCalls = (calls : List Call) (budget : ℕ) → IsCalls calls budget
 
 -- ---- what is posted
--- the messages that a call leaves where they are: all, but for the one that a delivery takes
+-- R6.9: the messages that a call leaves where they are: all, but for the one that a delivery takes
 abbrev pub remaining : State → Call → Coded Reply → List Message
 remaining s (Order order) said = s .messages
 remaining s (Deliver place) said = cond (accepted said) (without place (s .messages)) (s .messages)

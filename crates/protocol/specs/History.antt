@@ -15,13 +15,14 @@ use Rattle.protocol.specs.Calls.{applyOf}
 use Rattle.protocol.specs.Answer.{accepted}
 use Rattle.protocol.specs.Events.{Event, eventOf, put, toldAfter}
 
--- ---- the list so far: the network it leads to, who is told inserted, and of whom the last join or
--- leave that was not refused was a join
+-- ---- R10.1, R10.2: the list so far, by the network it leads to, who is told inserted, and of whom
+-- the last join or leave that was not refused was a join
 pub record History : Type 0 where
   pub state : State
   pub told : ℕ → Bool
   pub joins : ℕ → Bool
 
+-- R10.1, R10.2: the empty network, with nobody told inserted
 abbrev pub start : History
 start = record { state = empty; told = λ u. false; joins = λ u. false }
 
@@ -45,10 +46,12 @@ advanced h call = record {
   joins = joinsAfter h call (applyOf (h .state) call .said);
 }
 
+-- R10.1: the calls one after the other
 abbrev pub run : History → List Call → History
 run h [] = h
 run h (call ∷ calls) = run (advanced h call) calls
 
+-- R10.1: from the empty network
 abbrev pub history : List Call → History
 history calls = run start calls
 

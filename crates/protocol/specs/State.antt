@@ -17,8 +17,8 @@ use Rattle.parts.specs.Shape.{messageFits}
 use Rattle.node.specs.declared.Node.{Node}
 use Rattle.node.specs.Shape.{declaredOf, capacity, nodeFits}
 
--- R1.7: a node's number is its place among the nodes; R1.10: the messages that wait stand in the
--- order posted
+-- R1.7: a node's number is its place among the nodes, and the messages that wait (R1.10) stand in
+-- the order posted
 pub record State : Type 0 where
   pub nodes : List Node
   pub messages : List Message
@@ -31,14 +31,15 @@ empty = record { nodes = []; messages = [] }
 abbrev pub queueLimit : ℕ
 queueLimit = 64
 
--- refusal 5 asks for it
+-- R2.5, refusal 5: whether a number names a node
 abbrev pub declared : State → ℕ → Bool
 declared s u = ltb u (length (s .nodes))
 
--- the node of a number; past the last one, a node that is out and has no links
+-- R1.7: the node of a number; past the last one, a node that is out and has no links
 abbrev pub nodeAt : State → ℕ → Node
 nodeAt s u = getD (s .nodes) u (declaredOf 0)
 
+-- R1.3: its status, its key and its links
 abbrev pub statusAt : State → ℕ → Status
 statusAt s u = nodeAt s u .status
 
@@ -64,9 +65,11 @@ isNoticeTo u m = isNotice (m .kind) && eqb (m .to) u
 abbrev pub isExchangeOf : ℕ → Message → Bool
 isExchangeOf u m = (isRequest (m .kind) && eqb (m .sender) u) || (isAnswer (m .kind) && eqb (m .to) u)
 
+-- R4.1: a SetRAck to the node waits
 abbrev pub ackWaits : State → ℕ → Bool
 ackWaits s u = any (isAckTo u) (s .messages)
 
+-- R10.7, refusal 25: a SetL to the node waits
 abbrev pub noticeWaits : State → ℕ → Bool
 noticeWaits s u = any (isNoticeTo u) (s .messages)
 

@@ -1,7 +1,12 @@
 -- What the walks of the three searches share: an element read at the turn's number, by a name, and
 -- the loop's invariant, which has the network, the number and the flag.
---     at-node, at-message          the node or the message there, by a name.        node-there, message-there        for `look-by`: the read of it
---     Facts, Inv, into             the invariant: i of the first `end` are searched, and the flag is what it is after i turns
+--     at-node, at-message
+--                      the node or the message there, by a name
+--     node-there, message-there
+--                      for `look-by`: the read of it
+--     Facts, Inv, into
+--                      the invariant: i of the first `end` are searched, and the flag is what it is
+--                      after i turns
 -- Assumes `Given`.
 use Prim.Native.Nat.{ℕ, _+_, _*_, _-_, _<_, _≤_}
 use mathlib.Core.List.{List, [], _∷_}

@@ -5,10 +5,11 @@ use Prim.Native.Nat.{ℕ}
 use Rattle.refusal.specs.declared.Refusal.{Refusal}
 use Rattle.refusal.specs.declared.Refusal.the-variants.{UnknownMark, CutShort, BadDigit, SerialTooLarge, Undeclared, Malformed, ScriptTooLong, NetworkFull, KeyTaken, NotAllOut, NotOut, NotBetween, NoticeWaiting, NotIn, SequenceSpent, QueueFull, NoMessage, StartNotInserted, OwnerNotFound}
 
+-- R11.3: the number of each case
 abbrev pub code : Refusal → ℕ
 -- from the input
 code UnknownMark = 1  -- two bytes that are no mark
-code CutShort = 2  -- a record without all its bytes, or one byte of a mark
+code CutShort = 2  -- a record without all its bytes, or one byte where a mark should be
 code BadDigit = 3  -- a packed serial with a digit above 9
 code SerialTooLarge = 4  -- a binary serial, or one handed in as a number, above 99,999,999
 code Undeclared = 5  -- a number that names no declared node

@@ -8,12 +8,12 @@ use Rattle.refusal.specs.declared.Check.{Check}
 use Rattle.refusal.specs.declared.Check.the-variants.{Clear, Refuse}
 use Rattle.refusal.specs.Code.{Reason, plain, reason}
 
--- what a call says: its answer, or the reason of a refusal
+-- R6.1: what a call says: its answer, or the reason of a refusal
 pub data Coded (A : Type 0) : Type 0 where
   done : A → Coded A
   no : Reason → Coded A
 
--- a reason, and the condition under which it is given
+-- R6.1: a reason, and the condition under which it is given
 pub data Rule : Type 0 where
   rule : Reason → Bool → Rule
 
@@ -32,7 +32,7 @@ abbrev pub checked : Check → Option Reason
 checked Clear = none
 checked (Refuse r) = some (reason r)
 
--- what comes of a call: `refused` of the reason, or else what is accepted
+-- R6.1: what comes of a call: `refused` of the reason, or else what is accepted
 abbrev pub unlessRefused : {B : Type 0} → Option Reason → (Reason → B) → B → B
 unlessRefused none refused accepted = accepted
 unlessRefused (some r) refused accepted = refused r

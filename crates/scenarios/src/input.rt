@@ -47,8 +47,8 @@ pub(crate) fn fields(run: &mut Sheet) {
           OC\x00\x00\x00\x00\x0a\
           OC\x00\x00\x00\x00\x09",
     );
-    // R9.4, refusal 3, refusal 21: each of the eight digits in turn; and all eight in their order, in
-    // both forms.
+    // R9.4, refusal 3, refusal 21: each of the eight digits in turn; and all eight in their order,
+    // in both forms.
     scene(
         run,
         b"no 3: each of the eight digits\n\

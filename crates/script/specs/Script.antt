@@ -21,19 +21,21 @@ use Rattle.script.specs.declared.Record.the-variants.{Call as CallRecord
 use Rattle.script.specs.declared.Reading.{Reading}
 use Rattle.script.specs.declared.Reading.the-variants.{End, Stopped, Next}
 
--- what is read at a cursor: a record and the cursor after it, or the reason of a refusal that stops
--- the reading
+-- R9.5: what is read at a cursor: the end, a refusal that stops the reading, or a record and the
+-- cursor after it
 pub data Read : Type 0 where
   end : Read
   stop : Reason → Read
   next : Record → ℕ → Read
 
--- ---- R9.2: the table of marks
+-- ---- the table of marks
+-- R9.2: two bytes are the letters of a mark
 abbrev pub spells : String → ℕ → ℕ → Bool
 spells nothing a b = false
 spells (c then nothing) a b = false
 spells (c then (d then rest)) a b = eqb a (byte c) && eqb b (byte d)
 
+-- R9.2: the marks
 abbrev pub markOf : ℕ → ℕ → Lookup
 markOf a b =
     cond (spells "BC" a b) (Known PackedDeclare)
@@ -59,7 +61,7 @@ sizeOf PackedOwner = 5
 sizeOf BinaryOwner = 5
 sizeOf Drain = 2
 
--- four bytes from place i on
+-- R9.4: four bytes from place i on
 abbrev pub four : List ℕ → ℕ → List ℕ
 four fields i = getD fields i 0 ∷ getD fields (i + 1) 0 ∷ getD fields (i + 2) 0 ∷ getD fields (i + 3) 0 ∷ []
 

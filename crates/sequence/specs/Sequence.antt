@@ -4,6 +4,7 @@ use Prim.Native.Nat.{ℕ, _+_}
 use mathlib.Core.Bool.{Bool, cond}
 use lib.Dec.{ltb, leb, eqb}
 
+-- R1.2: a sequence number; that it fits its field is `isSeq`
 abbrev pub Number : Type 0
 Number = ℕ
 
@@ -23,6 +24,7 @@ isSeq n = leb n lastSeq
 unfoldable pub nextSeq : Number → Number
 nextSeq n = n + 1
 
+-- R1.2: two are the same number
 unfoldable pub same : Number → Number → Bool
 same n m = eqb n m
 

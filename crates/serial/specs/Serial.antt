@@ -24,7 +24,8 @@ coded TooLarge = no (plain 4)
 abbrev pub handedOf : ℕ → Serial
 handedOf n = cond (inRange n) (Value n) TooLarge
 
--- the value of digits in a base, the highest first: the sum of each times its power of the base
+-- R9.4: the value of digits in a base, the highest first: the sum of each times its power of the
+-- base
 abbrev pub positional : ℕ → List ℕ → ℕ
 positional base [] = 0
 positional base (d ∷ ds) = d * base ^ length ds + positional base ds

@@ -1,9 +1,15 @@
 -- Types of plain data, and lists of them as a function's parameters are: what a walk, and whoever
 -- calls the function, needs to know of each.
---     Data             how a value is spelled, that its relation makes what it owns, and that nothing is said of it at exit
---     a-number, a-byte, a-flag, no-value, of-struct, of-enum       the types of the machine, and each that is declared
---     word             the one machine value of a value.        spelled-out      what is shown of a value at its spelling holds of each that its type says is that value
---     slots, rows      as a signature has them.        Values, AreValues, spelled, machine      their values, that these are of their types, and the machine's
+--     Data             how a value is spelled, that its relation makes what it owns, and that
+--                      nothing is said of it at exit
+--     a-number, a-byte, a-flag, no-value, of-struct, of-enum
+--                      the types of the machine, and each that is declared
+--     word             the one machine value of a value
+--     spelled-out      what is shown of a value at its spelling holds of each that its type says is
+--                      that value
+--     slots, rows      as a signature has them
+--     Values, AreValues, spelled, machine
+--                      their values, that these are of their types, and the machine's
 -- Assumes nothing, but `make` and `makes`, which take `Given`.
 use Prim.Native.Nat.{ℕ}
 use mathlib.Core.Path.{_≡_, refl, sym, ap, subst}

@@ -1,6 +1,7 @@
 -- The end of a walk, as one step: the locals are freed, whatever each holds. Over no type of this
 -- crate.
---     locals vs E Γ    the cells of an environment as a walk's context has them, the last local first: vs says of each, from _0 on, whether it is room or what it holds
+--     locals vs E Γ    the cells of an environment as a walk's context has them, the last local
+--                      first: vs says of each, from _0 on, whether it is room or what it holds
 --     frees-all Δ vs   the locals that stand behind the entries Δ are freed, and Δ is left
 -- Assumes `Given`.
 use Prim.Native.Nat.{ℕ}

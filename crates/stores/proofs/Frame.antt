@@ -1,11 +1,15 @@
 -- A function `fn f(network: &mut Network, ..) -> R` whose other parameters, and whose result, are
 -- plain data: what its walk is to show. A walk is from `Held` to `Gives`, and speaks of no
 -- signature and of no clause.
---     ended Ps R       the signature with the parameters Ps behind the network and the result R. The generated `ended` is this by computation
---     Held κ q b o γ n         what the reference owns while the network behind it is n, with a share of its lifetime's token
---     Gives Φ .. v     the function has returned v: for some result r that is v, and some network n′ that is held, Φ r n′
+--     ended Ps R       the signature with the parameters Ps behind the network and the result R.
+--                      The generated `ended` is this by computation
+--     Held κ q b o γ n what the reference owns while the network behind it is n, with a share of
+--                      its lifetime's token
+--     Gives Φ .. v     the function has returned v: for some result r that is v, and some network
+--                      n′ that is held, Φ r n′
 --     gives            how a walk ends
---     framed           the function meets its contract, from a walk at any reference and any values of their types
+--     framed           the function meets its contract, from a walk at any reference and any values
+--                      of their types
 -- Assumes `Given`.
 use Prim.Native.Nat.{ℕ}
 use mathlib.Core.Path.{refl}

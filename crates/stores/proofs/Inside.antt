@@ -1,11 +1,20 @@
 -- One part of a struct that lies in memory, stored to and read where it lies: a field, or an
 -- element of a field that is an array of structs.
---     Opens P τ b p v Q        what P says of memory is room for a τ at (b, p), with the way from v there to Q
---     field-opens, elem-opens      so is a struct in memory at one field, and at one element of a field: Q is the struct in memory with the new part in it. Which
---                      record that is, the `Cut` says: `put-at` for a field, and `cut-records` over it where the field is an array of structs
---     store-by         the store: entry n of the context goes from P to Q. It is what `assigns` takes of a left side
---     Shows P q τ b p v        what P says of memory is a share q of v at (b, p), with the way back to P
---     elem-known, elem-shows   of one element of a field, at any share: it is of its type, and it can be read. The `Cut` is `look-at`, with `cut-records` over it
+--     Opens P τ b p v Q
+--                      what P says of memory is room for a τ at (b, p), with the way from v there
+--                      to Q
+--     field-opens, elem-opens
+--                      so is a struct in memory at one field, and at one element of a field: Q is
+--                      the struct in memory with the new part in it. Which record that is, the
+--                      `Cut` says: `put-at` for a field, and `cut-records` over it where the field
+--                      is an array of structs
+--     store-by         the store: entry n of the context goes from P to Q. It is what `assigns`
+--                      takes of a left side
+--     Shows P q τ b p v
+--                      what P says of memory is a share q of v at (b, p), with the way back to P
+--     elem-known, elem-shows
+--                      of one element of a field, at any share: it is of its type, and it can be
+--                      read. The `Cut` is `look-at`, with `cut-records` over it
 --     field-shows      a field that is one machine value can be read
 --     look-by          the read: entry n of the context stays as it is. It is what `load` takes
 -- Assumes `Given`.

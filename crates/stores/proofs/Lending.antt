@@ -1,9 +1,13 @@
 -- A call that a network which lies in memory is lent to: in a local, or behind a reference whose
 -- borrow is open. It is one step of a walk.
---     Lends R Φ c n    a callee with the contract c can be lent the network n: what it is passed at a loan, that it may be called so, and that it returns some r of the type R and leaves some
---                      network n′ with Φ r n′
---     lends            so can any function of `Frame.antt`, where its arguments are of their types and its `requires` holds
---     calls-giving     the call: the network at entry 0 is lent for a lifetime that is made for the call, and lies there again afterwards, as n′. The walk goes on with r, n′ and what is known of them
+--     Lends R Φ c n    a callee with the contract c can be lent the network n: what it is passed at
+--                      a loan, that it may be called so, and that it returns some r of the type R
+--                      and leaves some network n′ with Φ r n′
+--     lends            so can any function of `Frame.antt`, where its arguments are of their types
+--                      and its `requires` holds
+--     calls-giving     the call: the network at entry 0 is lent for a lifetime that is made for the
+--                      call, and lies there again afterwards, as n′. The walk goes on with r, n′
+--                      and what is known of them
 --     calls-lent       the same of a callee that returns no value and leaves one network
 -- Assumes `Given`.
 use Prim.Native.Nat.{ℕ}

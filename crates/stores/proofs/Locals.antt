@@ -1,9 +1,12 @@
 -- The locals of a walk, each read and written by the entry of the context that its cell is. Over no
 -- type of this crate.
 --     var n refl       the operand that is a local: its cell is entry n
---     sets n refl      an assignment to a local whose cell is room, at entry n.        resets       to one that holds a value already
---     lands-in, lands-again        the same of a call's result
---     offsets          to one that is to point to element i of an array, from a pointer to the array and so many bytes on
+--     sets n refl      an assignment to a local whose cell is room, at entry n
+--     resets           to one that holds a value already
+--     lands-in, lands-again
+--                      the same of a call's result
+--     offsets          to one that is to point to element i of an array, from a pointer to the
+--                      array and so many bytes on
 -- Assumes `Given`.
 use mathlib.Core.Path.{_≡_, sym, subst}
 use mathlib.Core.List.{List, []}

@@ -1,9 +1,12 @@
 -- A network that lies in memory, at this crate's types: what each store makes of it, and what can
 -- be read of it. Each is one line of `Inside.antt`.
---     lies b o n               the network n lies at (b, o), in a local or behind a reference: one entry of a walk's context
---     known                    it is a network: its arrays have 32 and 64 places, its counts are bytes
---     node-opens, message-opens, count-opens, waiting-opens        for `store-by`: the store of an element or of a field
---     whole-shows, node-is, node-shows, message-is, message-shows, count-shows, waiting-shows        for `look-by`: the read of one
+--     lies b o n       the network n lies at (b, o), in a local or behind a reference: one entry of
+--                      a walk's context
+--     known            it is a network: its arrays have 32 and 64 places, its counts are bytes
+--     node-opens, message-opens, count-opens, waiting-opens
+--                      for `store-by`: the store of an element or of a field
+--     whole-shows, node-is, node-shows, message-is, message-shows, count-shows, waiting-shows
+--                      for `look-by`: the read of one
 -- Assumes `Given`.
 use Prim.Native.Nat.{ℕ, _+_, _<_, _^_}
 use mathlib.Core.Path.{_≡_, refl, ap}

@@ -1,10 +1,13 @@
 -- What the walks of the crate `readings` say of the values that they read and give back: spots, a
 -- sight, an arrival, an order, what is found. A node or a message that is read gets a name of its
 -- own, so that the walk's context stays small.
---     reads-node, reads-message        a node or a message to be read, at a number brought into range, by a name
---     node-seen, message-seen          for `look-by`: the read of it
+--     reads-node, reads-message
+--                      a node or a message to be read, at a number brought into range, by a name
+--     node-seen, message-seen
+--                      for `look-by`: the read of it
 --     by-order         by cases on an order
---     sees, arrives                    what is read makes a sight or an arrival, which is of its type and is that of the network
+--     sees, arrives    what is read makes a sight or an arrival, which is of its type and is that
+--                      of the network
 -- Assumes `Given`.
 use Prim.Native.Nat.{ℕ, _+_, _*_, _<_, _%_}
 use mathlib.Core.List.{List, [], _∷_}

@@ -1,12 +1,17 @@
 -- Control rules that keep a walk in one line: no body, environment or context is written out. Over
 -- no type of this crate.
---     switch-to        a `switch` whose tag is a numeral: the arm that runs, and the rest of the code behind it, as one sequence
---     branch-to        an `if` whose outcome is known, the same. A `return` in an arm ends the walk of that arm
---     joins            arms that come to the same but for two values, of which P is known, and then what they join in. The context there is said, as a
---                      change of the one before: antt would take seconds to find that of one arm the same as that of another
+--     switch-to        a `switch` whose tag is a numeral: the arm that runs, and the rest of the
+--                      code behind it, as one sequence
+--     branch-to        an `if` whose outcome is known, the same. A `return` in an arm ends the walk
+--                      of that arm
+--     joins            arms that come to the same but for two values, of which P is known, and then
+--                      what they join in. The context there is said, as a change of the one before:
+--                      antt would take seconds to find that of one arm the same as that of another
 --     comes-to         the same of arms that come to no value
---     by-name          a value gets a name, so that what holds it can be told in two arms to be the same
---     loops-on         a loop whose invariant is entry 0 of the context; the entries behind it are the same at each turn
+--     by-name          a value gets a name, so that what holds it can be told in two arms to be the
+--                      same
+--     loops-on         a loop whose invariant is entry 0 of the context; the entries behind it are
+--                      the same at each turn
 --     turns-on         the end of a turn: the invariant again, at a smaller measure
 --     leaves-while     the test of a `while` has failed: the code behind the loop runs
 -- Assumes `Given`, and a `Tables`.

@@ -1,7 +1,9 @@
 -- An enum in a local of a walk, whose variant is known: its tag and its fields, each read by the
 -- entry of the context that the local's cell is.
 --     tag-of n         the operand that is the tag: the cell is entry n
---     field-of n k j τ d       the operand that is field j of the variant k, which has the type τ and lies d bytes on
+--     field-of n k j τ d
+--                      the operand that is field j of the variant k, which has the type τ and lies
+--                      d bytes on
 -- Assumes `Given`.
 use Prim.Native.Nat.{ℕ, suc, _+_}
 use mathlib.Core.Path.{_≡_, refl, sym, ap, subst}

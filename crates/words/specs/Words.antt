@@ -5,6 +5,7 @@ use Rattle.text.specs.Text.{ascii}
 use Rattle.node.specs.declared.Outcome.{Outcome}
 use Rattle.node.specs.declared.Outcome.the-variants.{Created, Waiting, LeftAlone, Granted, Denied, Joined, Gone, JoinDenied, LeaveDenied, LeftSet, LeftOld, Dropped}
 
+-- R9.7: the word of each outcome
 abbrev pub outcomeWord : Outcome → List ℕ
 outcomeWord Created = ascii "created"
 outcomeWord Waiting = ascii "waiting"

@@ -1,9 +1,14 @@
 -- What the two walks of `printing` say of values in memory: the row of a text, the machine values
 -- of what a run keeps and of a progress, and how a value lies in memory. What is kept can be had as
 -- one cell, and the network in it can be taken out and put back, changed or not.
---     lies R b o h     a value h of the row R lies at (b, o), in a local (l, 0) or behind a reference
---     lies-out, lies-in        a struct that lies in memory is the one cell there that holds its machine value, and back
---     network-out, network-in      the network of what is kept, which lies at the same place, and the rest of it, `Shell`. There is a way back at each network
+--     lies R b o h     a value h of the row R lies at (b, o), in a local (l, 0) or behind a
+--                      reference
+--     lies-out, lies-in
+--                      a struct that lies in memory is the one cell there that holds its machine
+--                      value, and back
+--     network-out, network-in
+--                      the network of what is kept, which lies at the same place, and the rest of
+--                      it, `Shell`. There is a way back at each network
 -- Assumes `Given`.
 use Prim.Native.Nat.{ℕ, _+_}
 use mathlib.Core.Path.{refl}

@@ -2,8 +2,10 @@
 -- for a lifetime that is made for the call, the script beside them is passed at its own, and after
 -- the call both lie there again, one record further. Lending is stated once, over the row: the
 -- crate `stores` has it for a network alone.
---     lends, back              a value of any row that lies in memory is lent for a new lifetime, and lies there again at the loan's last value
---     lends-step, step-back    the two loans of a call of `step`, and what there is after it
+--     lends, back      a value of any row that lies in memory is lent for a new lifetime, and lies
+--                      there again at the loan's last value
+--     lends-step, step-back
+--                      the two loans of a call of `step`, and what there is after it
 -- Assumes `Given`.
 use Prim.Native.Nat.{ℕ}
 use mathlib.Core.List.{[], _∷_, List}

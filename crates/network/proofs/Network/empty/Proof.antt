@@ -1,4 +1,4 @@
--- `network::Network::empty` meets its contract: each place holds its blank, by computation. Assumes
+-- `network::Network::empty` meets its contract: each place is vacant, by computation. Assumes
 -- nothing.
 use mathlib.Core.Path.{refl}
 use Rattle.sequence.specs.Sequence.{firstSeq}
