@@ -1,4 +1,5 @@
-//! The ring program as plain Rust that formats by hand: bytes and digits go straight into one buffer, which is written once.
+//! The ring program as plain Rust that formats by hand: bytes and digits go straight into one
+//! buffer, which is written once.
 use rules::Lines;
 use std::io::{self, Write};
 

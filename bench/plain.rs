@@ -1,4 +1,5 @@
-//! The ring program as plain Rust: the standard library's formatting, into a buffered standard output.
+//! The ring program as plain Rust: the standard library's formatting, into a buffered standard
+//! output.
 use rules::Lines;
 use std::io::{self, BufWriter, StdoutLock, Write};
 

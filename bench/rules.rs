@@ -1,5 +1,6 @@
-//! The rules of the ring program of paper 01 as plain Rust, for the programs that the proved one is measured against: one network changed in
-//! place, and no test of well-formedness. It shares no line with the proved program. How a line is written is left to each program.
+//! The rules of the ring program of paper 01 as plain Rust, for the programs that the proved one is
+//! measured against: one network changed in place, and no test of well-formedness. It shares no
+//! line with the proved program. How a line is written is left to each program.
 use std::io::{self, Read};
 
 const CAPACITY: usize = 32;
@@ -362,8 +363,9 @@ pub fn script() -> io::Result<Vec<u8>> {
     Ok(script)
 }
 
-/// All lines but the first. This and `record` are inlined, so that a program's lines are written where its records are read, as if it stood
-/// in one file; else each record takes some fifteen instructions more.
+/// All lines but the first. This and `record` are inlined, so that a program's lines are written
+/// where its records are read, as if it stood in one file; else each record takes some fifteen
+/// instructions more.
 #[inline]
 pub fn run(mut script: &[u8], lines: &mut impl Lines) -> io::Result<()> {
     let mut network = Network::new();

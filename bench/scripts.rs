@@ -1,5 +1,5 @@
-//! Writes the scripts of the measurement into a folder, each as long as a script may be: a ring of 32 nodes is made first, and then
-//! one kind of work is repeated until no more fits.
+//! Writes the scripts of the measurement into a folder, each as long as a script may be: a ring of
+//! 32 nodes is made first, and then one kind of work is repeated until no more fits.
 use std::{env, fs, io, path::Path};
 
 const SIZE_LIMIT: usize = 65_536;
@@ -63,7 +63,8 @@ fn rejoin(u: u8) -> Vec<u8> {
     join(u, u - 1, (u + 1) % NODES)
 }
 
-/// The deliveries of so many requests that are all granted, each at some place: a request posts two messages, and they post none.
+/// The deliveries of so many requests that are all granted, each at some place: a request posts two
+/// messages, and they post none.
 fn scattered(requests: usize, random: &mut Random) -> Vec<u8> {
     let mut waiting = vec![true; requests];
     let mut bytes = Vec::new();
