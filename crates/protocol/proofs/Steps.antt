@@ -3,7 +3,7 @@
 -- invariant speaks of. Assumes nothing.
 use mathlib.Core.Path.{_≡_, refl, ap}
 use mathlib.Core.Logic.{_⊎_, inl, inr, ⊎-elim, _↔_, _≢_}
-use mathlib.Core.Bool.{Bool, true, false, cond}
+use mathlib.Core.Bool.{Bool, true, false}
 use mathlib.Core.List.{List, [], _∷_, _++_}
 use Prim.Native.Nat.{ℕ, _≤_, _<_}
 use native.Mathlib.Omega.{arith}
@@ -28,7 +28,7 @@ use Rattle.protocol.specs.declared.Order.the-variants.{Declare, Create, 
 use Rattle.protocol.specs.declared.Call.the-variants.{Order, Deliver}
 use Rattle.protocol.specs.State.{State, nodeAt, statusAt, isExchangeOf, exchanges}
 use Rattle.protocol.specs.Calls.{Result, messageAt, peerAt}
-use Rattle.protocol.specs.Events.{stays, admitted, released, grantOf, eventOf, put, toldAfter}
+use Rattle.protocol.specs.Events.{stays, grantOf, eventOf, put, toldAfter}
 use Rattle.protocol.specs.History.{History, joinsAfter}
 use Rattle.protocol.proofs.Nodes.{listed, declared-at, past, set-at}
 use Rattle.protocol.proofs.Waiting.{Taken, Limited}
@@ -109,10 +109,10 @@ module _ (h : History) (g : Good h) where
     at = set-at (h .state .nodes) k;
   }
 
-  -- the event that a granted request of v to p is
+  -- the event that a granted request of v to p is, by what v asked for last
   pub granted-event : (place : ℕ) {m : Message} {v p new e : ℕ} {n : Number} {b : Bool} → messageAt (h .state) place ≡ m → m ≡ setR v p new e n → h .joins v ≡ b
-      → grantOf (h .joins) (messageAt (h .state) place) ≡ cond b (admitted v p) (released v p)
-  granted-event place {v = v} {p} at em j = rw (at, em, j)
+      → grantOf (h .joins) (messageAt (h .state) place) ≡ grantOf (λ _. b) (setR v p new e n)
+  granted-event place at em j = rw (at, em, j)
 
   -- a leaver whose request waits is declared, and has its right number
   number : {p new e : ℕ} {n : Number} {rest : List Message} (v : ℕ) → Taken (h .state .messages) (setR v p new e n) rest
