@@ -16,7 +16,9 @@ import re
 import sys
 
 OWN = sorted(os.listdir("crates"))
-TOKEN = re.compile(r"[A-Za-zℕ_◌][A-Za-z0-9_'◌ℕ₀-₉-]*")
+TOKEN = re.compile(r"(?<![\w'◌])[A-Za-zℕ_◌][A-Za-z0-9_'◌ℕ₀-₉-]*")
+
+LITERAL = re.compile(r"""b?"(?:\\.|[^"\\])*"|b?'(?:\\[^']+|[^'\\\n])'""", re.S)
 
 
 def antt():
@@ -114,7 +116,9 @@ for name in sorted(declared | fields):
             mapped[name] = new
 
 
-def turn(token):
+def turn(token, proof):
+    if token in LEMMAS and not proof:
+        return token
     if token in mapped:
         return mapped[token]
     if token in std:
@@ -123,11 +127,14 @@ def turn(token):
     return "-".join(camel.get(p, p) for p in parts)
 
 
-def turned(text):
+def turned(text, proof):
     for name in DOUBLE:
         new = name.replace("-", "_")
         text = re.sub(rf"(?<=\.){name}(?![\w'-])|(?<=^  pub ){name}(?= :)|(?<![\w'.-]){name}(?= = )", new, text, flags=re.M)
-    return TOKEN.sub(lambda m: turn(m.group(0)), text)
+    if proof:
+        return TOKEN.sub(lambda m: turn(m.group(0), proof), text)
+    # In code, literals keep their text.
+    return re.sub(LITERAL.pattern + "|" + TOKEN.pattern, lambda m: m.group(0) if LITERAL.fullmatch(m.group(0)) else turn(m.group(0), proof), text)
 
 
 faults = []
@@ -156,7 +163,7 @@ if faults and "--anyway" not in sys.argv:
     raise SystemExit(1)
 for path in texts():
     text = read(path)
-    new = turned(text)
+    new = turned(text, path.endswith(".antt"))
     if new != text:
         with open(path, "w", encoding="utf-8") as f:
             f.write(new)

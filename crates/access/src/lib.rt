@@ -2,6 +2,8 @@
 // rules look at is read out (`Sight`, `Arrival`), and what they decide is carried out (`Change`).
 // Each public function takes any network and any numbers. The crates `stores` and `readings` do the
 // same where a network lies, by the same definitions.
+#![tactic(auto)]
+
 use node::Node;
 use parts::{Message, Posts};
 
@@ -12,7 +14,7 @@ pub use by_value::{arrival as met, committed, fitting, sight as seen};
 // What a call leaves to be done in the arrays: nothing where it is refused; a node more; a node's
 // step, with the messages that it posts; or the same with the message at a place taken from the
 // queue.
-#[derive(Drop)]
+#[derive(Clone, Copy)]
 pub enum Change {
     Nothing,
     Add(Node),
@@ -30,7 +32,7 @@ pub enum Change {
 }
 
 // Where an order looks: at three nodes. What it does not name is 0.
-#[derive(Drop)]
+#[derive(Clone, Copy)]
 pub struct Spots {
     pub node: u8,
     pub left: u8,
@@ -38,7 +40,7 @@ pub struct Spots {
 }
 
 // What stands there: how many nodes and messages there are, and the three nodes.
-#[derive(Drop)]
+#[derive(Clone, Copy)]
 pub struct Sight {
     pub count: u8,
     pub waiting: u8,
@@ -49,7 +51,7 @@ pub struct Sight {
 
 // What a delivery looks at: how many messages wait, the one at its place, and the node that it is
 // for.
-#[derive(Drop)]
+#[derive(Clone, Copy)]
 pub struct Arrival {
     pub waiting: u8,
     pub message: Message,

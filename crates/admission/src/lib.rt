@@ -1,5 +1,7 @@
 // The test at the doors that are handed a network by reference: what is asked becomes a task, or
 // the task is to tell 6.
+#![tactic(auto)]
+
 ghost use Rattle.std.specs.Prelude.{◌≡◌};
 ghost use Rattle.task.specs.declared.Task.TheVariants as task;
 ghost use Rattle.admission.specs.Admission.{admitted};

@@ -1,6 +1,8 @@
 // Runs scripts made by chance through the ring program and through a second model of it, and holds
 // the two printouts against each other, byte for byte. It writes how often each order had each
 // answer, and last whether any script differed.
+#![tactic(auto)]
+
 mod playing;
 mod random;
 mod steering;

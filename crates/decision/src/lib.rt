@@ -1,6 +1,8 @@
 // What any call may come to, whatever its rules: a refusal, which changes nothing, or a new node or
 // a node's step to be written down, with what is told of it. Where an order looks, and whether what
 // a step posts finds room, are here too. Each public function takes any values.
+#![tactic(auto)]
+
 ghost use Rattle.std.specs.Prelude.{◌≡◌, ◌+◌, ◌-◌, length, leb};
 ghost use Rattle.refusal.specs.Code.{reason};
 ghost use Rattle.refusal.specs.Rules.{checked, first, unless_refused};
@@ -21,7 +23,7 @@ use report::Report;
 
 // What a call comes to: the change to be carried out, which is none where it is refused, and what
 // is told.
-#[derive(Drop)]
+#[derive(Clone, Copy)]
 pub struct Decision {
     pub change: Change,
     pub report: Report,

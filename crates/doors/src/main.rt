@@ -3,6 +3,8 @@
 // network with one rule of section 2 broken at a time, and networks with fields made by chance.
 // Then what no script can show of well-formed networks: one that is no ring, and the word of the
 // inserted nodes.
+#![tactic(auto)]
+
 ghost use Rattle.std.specs.Prelude.{◌≤◌};
 
 mod faults;
@@ -212,7 +214,7 @@ fn members(network: Network) {
 }
 
 // Of the networks drawn, how many are well formed, and how many others every door refuses.
-#[derive(Drop)]
+#[derive(Clone, Copy)]
 struct Count {
     well_formed: u32,
     right: u32,

@@ -3,7 +3,7 @@ use network::{Network, VACANT_MESSAGE};
 use node::Node;
 use parts::{Kind, Link, Message, Seq, Status};
 
-#[derive(Drop)]
+#[derive(Clone, Copy)]
 pub(crate) struct Drawn {
     pub(crate) network: Network,
     pub(crate) seed: u32,

@@ -3,6 +3,8 @@
 // first, and refuses 6 with the very network where it is not well formed. What is done past the
 // test is private to this crate, and asks that the network be well formed. Each contract is an
 // equation with the rules of the crate `protocol` on the lists that the network's arrays hold.
+#![tactic(auto)]
+
 use network::Network;
 use report::Report;
 
@@ -19,7 +21,7 @@ pub use printing::printout;
 pub use questions::{inserted, owner};
 
 // What a call or a drain by value hands back: the network as it leaves it, and what is told.
-#[derive(Drop)]
+#[derive(Clone, Copy)]
 pub struct Called {
     pub network: Network,
     pub report: Report,

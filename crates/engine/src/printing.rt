@@ -17,7 +17,7 @@ use progress::Progress;
 pub const SIZE_LIMIT: usize = 65_536;
 
 // What a run keeps from record to record.
-#[derive(Drop)]
+#[derive(Clone, Copy)]
 struct Kept {
     network: Network,
 }

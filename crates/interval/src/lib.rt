@@ -1,4 +1,6 @@
 // Intervals on the circle of keys (docs/RULES.md, section 3).
+#![tactic(auto, unfolding(crate::specs::Interval::between, crate::specs::Interval::within))]
+
 ghost use Rattle.std.specs.Prelude.{◌≡◌};
 ghost use Rattle.interval.specs.Interval.{between, within};
 

@@ -2,6 +2,8 @@
 // messages that wait. A number past an array counts from its beginning again, and counts past the
 // arrays are cut. What this comes to on a well-formed network's lists is proved in `proofs/`;
 // whether a network is well formed is tested in a crate above.
+#![tactic(auto)]
+
 ghost use Rattle.std.specs.Prelude.{◌≡◌, ◌≤◌, take};
 ghost use Rattle.predicates.specs.Tests.{any};
 ghost use Rattle.protocol.specs.State.{is_ack_to, is_inserted};

@@ -1,6 +1,8 @@
 // A network (paper 01: a floor) in fixed arrays: its nodes and its waiting messages, and whether it
 // is well formed. `specs/` says which lists the arrays hold; the calls on a network, and the
 // questions it is asked, stand in crates above.
+#![tactic(auto)]
+
 ghost use Rattle.std.specs.Prelude.{◌≡◌};
 ghost use Rattle.network.specs.Arrays.{empty};
 
@@ -16,7 +18,7 @@ pub const QUEUE_LIMIT: u8 = 64;
 
 // The first `count` nodes are declared, and a node's number is its place; the first `waiting`
 // messages wait, in the order posted.
-#[derive(Drop)]
+#[derive(Clone, Copy)]
 pub struct Network {
     pub nodes: [Node; 32],
     pub count: u8,

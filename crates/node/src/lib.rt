@@ -2,6 +2,8 @@
 // (docs/RULES.md, section 5). Its parts and its messages are those of the crate `parts`. Each
 // action takes the node by value, with the node's own number, and hands back the node, at most two
 // messages and a verdict (R1.9).
+#![tactic(auto)]
+
 use parts::{Link, Posts, Seq, Status};
 use refusal::Refusal;
 use sequence::Number;
@@ -17,7 +19,7 @@ mod shape;
 mod steps;
 
 // R1.3.
-#[derive(Drop)]
+#[derive(Clone, Copy)]
 pub struct Node {
     pub key: u32,
     pub left: Link,
@@ -28,14 +30,14 @@ pub struct Node {
 }
 
 // A neighbour that a join is handed: its number and its key.
-#[derive(Drop)]
+#[derive(Clone, Copy)]
 pub struct Peer {
     pub number: u8,
     pub key: u32,
 }
 
 // What a step did, where it was not refused: the outcomes of section 5.
-#[derive(Drop)]
+#[derive(Clone, Copy)]
 pub enum Outcome {
     Created,
     Waiting,
@@ -51,13 +53,13 @@ pub enum Outcome {
     Dropped,
 }
 
-#[derive(Drop)]
+#[derive(Clone, Copy)]
 pub enum Verdict {
     Done(Outcome),
     Refused(Refusal),
 }
 
-#[derive(Drop)]
+#[derive(Clone, Copy)]
 pub struct Step {
     pub node: Node,
     pub posts: Posts,

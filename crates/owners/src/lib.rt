@@ -2,6 +2,8 @@
 // links from a start that is inserted, and what is refused before it. A number past an array counts
 // from its beginning again. What this comes to on a well-formed network's lists is proved in
 // `proofs/`; whether a network is well formed is tested in a crate above.
+#![tactic(auto)]
+
 ghost use Rattle.std.specs.Prelude.{◌≡◌, cond, ltb};
 ghost use Rattle.refusal.specs.Code.{reason, plain};
 ghost use Rattle.refusal.specs.Rules.{no};

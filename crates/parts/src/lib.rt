@@ -1,6 +1,8 @@
 // What a node and a message are put together from (R1.3, R1.6): a status, a link, a right number, a
 // kind; the message itself; and what a step posts. Their tests are here too, among them whether a
 // link or a message is well formed among so many nodes.
+#![tactic(auto)]
+
 use sequence::Number;
 
 mod shape;
@@ -8,7 +10,7 @@ mod tests;
 
 pub use shape::{link_fits, links_fit};
 
-#[derive(Drop)]
+#[derive(Clone, Copy)]
 pub enum Status {
     Out,
     Ins,
@@ -17,20 +19,20 @@ pub enum Status {
 }
 
 // A link to a node, by its number.
-#[derive(Drop)]
+#[derive(Clone, Copy)]
 pub enum Link {
     Unlinked,
     To(u8),
 }
 
 // A right number, which a node may lack.
-#[derive(Drop)]
+#[derive(Clone, Copy)]
 pub enum Seq {
     Unset,
     Is(Number),
 }
 
-#[derive(Drop)]
+#[derive(Clone, Copy)]
 pub enum Kind {
     SetR {
         new: u8,
@@ -47,7 +49,7 @@ pub enum Kind {
     },
 }
 
-#[derive(Drop)]
+#[derive(Clone, Copy)]
 pub struct Message {
     pub sender: u8,
     pub to: u8,
@@ -55,7 +57,7 @@ pub struct Message {
 }
 
 // What a step posts, in this order.
-#[derive(Drop)]
+#[derive(Clone, Copy)]
 pub enum Posts {
     Nothing,
     One(Message),

@@ -22,7 +22,7 @@ pub fn links_fit(status: Status, left: Link, right: Link, rseq: Seq, count: u8) 
             & (!status.is_in_or_del() | rseq.is_numbered()))
 }
 
-fn kind_fits_lem(kind: Kind, count: u8) -> bool
+fn kind_fits(kind: Kind, count: u8) -> bool
     ensures { result ≡ kind_fits count kind }
 {
     match kind {
@@ -39,10 +39,11 @@ fn kind_fits_lem(kind: Kind, count: u8) -> bool
 
 impl Message {
     // Whether the message is well formed among the first `count` nodes.
+    #[tactic(auto, unfolding(crate::specs::Shape::message_fits))]
     pub fn fits(self, count: u8) -> bool
         ensures { result ≡ message_fits count self }
     {
         let kind = self.kind;
-        (self.sender < count) & ((self.to < count) & kind_fits_lem(kind, count))
+        (self.sender < count) & ((self.to < count) & kind_fits(kind, count))
     }
 }

@@ -43,11 +43,11 @@ bit-false e = rw e
 
 -- ---- the members of a list
 module _ {A : Type 0} (test : A → Bool) where
-  pub any-in : {l : List A} {x : A} → x ∈ l → test x ≡ true → any test l ≡ true
+  pub any-in : {x : A} {l : List A} → x ∈ l → test x ≡ true → any test l ≡ true
   any-in (here {xs = l} e) t = rw (← e, t)
   any-in (there {x = y} {xs = l} i) t = or_right (test y) (any test l) (any-in i t)
 
-  pub none_in : {l : List A} {x : A} → any test l ≡ false → x ∈ l → test x ≡ false
+  pub none_in : {x : A} {l : List A} → any test l ≡ false → x ∈ l → test x ≡ false
   none_in {x} n i = ⊎_elim (λ t. absurd (not-both (any-in i t) n)) (λ f. f) (decided (test x))
 
   pub some_in : (l : List A) → any test l ≡ true → (x : A) × (x ∈ l) × (test x ≡ true)
@@ -62,7 +62,7 @@ module _ {A : Type 0} (test : A → Bool) where
   not-any [] f = refl
   not-any (x ∷ l) f = rw (f x (here refl)) (not-any l (λ y i. f y (there i)))
 
-  pub every_in : {l : List A} {x : A} → every test l ≡ true → x ∈ l → test x ≡ true
+  pub every_in : {x : A} {l : List A} → every test l ≡ true → x ∈ l → test x ≡ true
   every_in h (here {x = y} {xs = l} e) = ap test e ∙ (both (test y) (every test l) h).0
   every_in h (there {x = y} {xs = l} i) = every_in (both (test y) (every test l) h).1 i
 
@@ -74,11 +74,11 @@ module _ {A : Type 0} (test : A → Bool) where
   count-append [] m = omega arith
   count-append (x ∷ l) m = omega (arith, count-append l m)
 
-  pub count-in : {l : List A} {x : A} → x ∈ l → test x ≡ true → 1 ≤ count test l
+  pub count-in : {x : A} {l : List A} → x ∈ l → test x ≡ true → 1 ≤ count test l
   count-in (here {x = y} e) t = omega (arith, bit-true (rw e at t))
   count-in (there i) t = omega (arith, count-in i t)
 
-  pub none-counted : {l : List A} {x : A} → count test l ≡ 0 → x ∈ l → test x ≡ false
+  pub none-counted : {x : A} {l : List A} → count test l ≡ 0 → x ∈ l → test x ≡ false
   none-counted {x} n i = ⊎_elim (λ t. absurd (omega (arith, count-in i t))) (λ f. f) (decided (test x))
 
 -- ---- a list put together, and its beginnings

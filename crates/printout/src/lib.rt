@@ -1,6 +1,8 @@
 // The lines of the printout (R9.7, R9.8), each written straight into the text. Where forty bytes
 // find no room nothing is written: no line has more, whatever its numbers, so nothing is asked of
 // the caller. A word is put with the space before it and the line end after it, as one constant.
+#![tactic(auto)]
+
 ghost use Rattle.std.specs.Prelude.{◌+◌, ◌≤◌, length};
 ghost use Rattle.refusal.specs.Code.{reason};
 ghost use Rattle.refusal.specs.Rules.{done, no};

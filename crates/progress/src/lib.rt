@@ -1,6 +1,8 @@
 // How far the run of a script has come, beside its network, and how it leaves a record: the line is
 // printed, and the cursor is past it. Counts wrap, and where forty bytes find no room no line is
 // printed, so that nothing is asked of the caller; a run comes to neither.
+#![tactic(auto)]
+
 ghost use Rattle.std.specs.Prelude.{◌≡◌};
 ghost use Rattle.progress.specs.Leaving.{refusal_in, Leaves, Refuses};
 
@@ -9,7 +11,7 @@ use refusal::Refusal;
 use report::Report;
 
 // The cursor, the ordinal of the last record, all messages posted, and the bytes printed.
-#[derive(Drop)]
+#[derive(Clone, Copy)]
 pub struct Progress {
     pub at: usize,
     pub ordinal: u32,

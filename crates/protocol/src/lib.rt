@@ -2,12 +2,14 @@
 // (docs/RULES.md, sections 6 to 8) are definitions in `specs/`, and the claim about any list of
 // them (section 10) is proved in `proofs/`; the functions that carry them out on arrays stand in a
 // crate above.
+#![tactic(auto)]
+
 use node::Outcome;
 use refusal::Refusal;
 
 // What a person asks of the network. Any arguments that fit their types: whether a node is declared
 // is for the rules to say.
-#[derive(Drop)]
+#[derive(Clone, Copy)]
 pub enum Order {
     Declare(u32),
     Create(u8),
@@ -16,7 +18,7 @@ pub enum Order {
 }
 
 // What changes a network: an order, or the delivery of the message at a place of the queue.
-#[derive(Drop)]
+#[derive(Clone, Copy)]
 pub enum Call {
     Order(Order),
     Deliver(u8),
@@ -25,7 +27,7 @@ pub enum Call {
 // What is answered where nothing is refused: to a declaration; to any other call, by what the node
 // did; to the question for an owner; to a drain; and to the question who is inserted, as a word
 // with bit n for node n and the number of its ones.
-#[derive(Drop)]
+#[derive(Clone, Copy)]
 pub enum Reply {
     Declared { number: u8, key: u32 },
     Stepped(Outcome),
@@ -34,7 +36,7 @@ pub enum Reply {
     Inserted { word: u32, size: u32 },
 }
 
-#[derive(Drop)]
+#[derive(Clone, Copy)]
 pub enum Answer {
     Done(Reply),
     Refused(Refusal),

@@ -1,6 +1,8 @@
 // The arrays of a network read where they lie, behind a reference: what the crates `access` and
 // `searches` read by value, by the same definitions, with no array copied. The network is as it was
 // after each. Each function is walked by hand, as in the crate `stores`.
+#![tactic(auto)]
+
 ghost use Rattle.std.specs.Prelude.{◌≡◌};
 ghost use Rattle.access.specs.Sights.{sight_of, arrival_of};
 ghost use Rattle.searches.specs.Searches.{key_is_taken, some_stands, notice_waits, found_of};

@@ -1,12 +1,14 @@
 // The refusals (docs/RULES.md, section 6): a named case for each number, the number of a case, and
 // rules of refusal in their order (R6.1).
+#![tactic(auto)]
+
 ghost use Rattle.std.specs.Prelude.{◌≡◌, cond};
 ghost use Rattle.std.proofs.Math.Option.{some};
 ghost use Rattle.refusal.specs.Code.{code, reason};
 ghost use Rattle.refusal.specs.Rules.{checked};
 
 // No case carries anything but its number.
-#[derive(Drop)]
+#[derive(Clone, Copy)]
 pub enum Refusal {
     // From the input.
     UnknownMark,
@@ -60,7 +62,7 @@ impl Refusal {
 }
 
 // What the rules of a call come to: nothing against it, or its first refusal.
-#[derive(Drop)]
+#[derive(Clone, Copy)]
 pub enum Check {
     Clear,
     Refuse(Refusal),

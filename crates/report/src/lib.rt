@@ -1,5 +1,7 @@
 // What is told of a call, a question or a drain, and the tally that a drain keeps of its
 // deliveries.
+#![tactic(auto)]
+
 ghost use Rattle.std.specs.Prelude.{◌≡◌, ◌+◌, ◌%◌, ◌^◌, ◌&&◌, nat_lt};
 ghost use Rattle.refusal.specs.Code.{reason};
 ghost use Rattle.refusal.specs.Rules.{done, no};
@@ -10,7 +12,7 @@ use protocol::{Answer, Reply};
 use refusal::Refusal;
 
 // The answer, and how many messages were posted.
-#[derive(Drop)]
+#[derive(Clone, Copy)]
 pub struct Report {
     pub answer: Answer,
     pub posted: u32,
@@ -33,7 +35,7 @@ pub fn refused(refusal: Refusal) -> Report
 }
 
 // What a drain has done so far: the deliveries made, and the messages that they posted.
-#[derive(Drop)]
+#[derive(Clone, Copy)]
 pub struct Tally {
     pub made: u16,
     pub posted: u32,

@@ -2,6 +2,8 @@
 // more than a script may have is asked for, so that a longer one shows. A script that cannot be
 // read, and a printout that cannot be written, is told on standard error: a program has no exit
 // status.
+#![tactic(auto)]
+
 ghost use Rattle.io.specs.Counts.{IsPrefixLen};
 ghost use Rattle.std.specs.Prelude.{◌≡◌, length};
 
@@ -9,7 +11,7 @@ use libc::{STDERR_FILENO, STDIN_FILENO, STDOUT_FILENO};
 
 // What reading came to: so many bytes of the script, at the start of the buffer. Where a read
 // failed, none counts.
-#[derive(Drop)]
+#[derive(Clone, Copy)]
 struct Input {
     size: usize,
     failed: bool,

@@ -3,6 +3,8 @@
 // handed in and none is changed, so that a call by value and a call in place are the same decision.
 // `specs/` says it, with the steps of the crate `node` and what `decision` makes of them; that on a
 // well-formed network this is what the crate `protocol` says is proved in the crate `engine`.
+#![tactic(auto)]
+
 ghost use Rattle.std.specs.Prelude.{◌≡◌};
 ghost use Rattle.decision.specs.Decided.{decided};
 ghost use Rattle.rules.specs.Decisions.{declare_decision, create_decision, join_decision, leave_decision, order_decision, delivery_decision};

@@ -2,6 +2,8 @@
 // `searches`, and in place `readings`), and the decision is made from that (`rules`). By value and
 // in place it is the same decision, and nothing is changed. That on a well-formed network it is
 // what the crate `protocol` says is proved in the crate `engine`.
+#![tactic(auto)]
+
 ghost use Rattle.std.specs.Prelude.{◌≡◌};
 ghost use Rattle.decision.specs.Decided.{decided};
 ghost use Rattle.ruling.specs.Rulings.{decision_on};

@@ -8,6 +8,8 @@
 // is well formed (6), and from every inserted node of it an owner is found (31). The highest right
 // number rises by one at most with each join or leave, and no script has room for 65,535 of them
 // (27).
+#![tactic(auto)]
+
 ghost use Rattle.std.specs.Prelude.{◌≤◌, length};
 
 mod actions;

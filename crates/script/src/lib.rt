@@ -1,6 +1,8 @@
 // Reading a script (R9.2, R9.3, R9.4, R9.5): the record at a cursor, for every slice of bytes and
 // every cursor. A record's serial is read in its form, and stands in the record as a number or as
 // the refusal that comes at the serial's turn, after those of the fields before it.
+#![tactic(auto)]
+
 ghost use Rattle.std.specs.Prelude.{◌≡◌, ◌<◌, [], ◌∷◌, reverse, get_or};
 ghost use Rattle.serial.specs.Serial.{packed_of, binary_of, positional};
 ghost use Rattle.script.specs.Script.{mark_of, size_of, four, record_of, read_at, reading};
@@ -10,7 +12,7 @@ use refusal::Refusal;
 use serial::Serial;
 
 // The rows of the table of marks: which fields follow, and how a serial is written there.
-#[derive(Drop)]
+#[derive(Clone, Copy)]
 pub enum Mark {
     PackedDeclare,
     BinaryDeclare,
@@ -24,7 +26,7 @@ pub enum Mark {
 }
 
 // What two bytes are in that table.
-#[derive(Drop)]
+#[derive(Clone, Copy)]
 pub enum Lookup {
     Known(Mark),
     Unknown,
@@ -32,7 +34,7 @@ pub enum Lookup {
 
 // What a record asks: a call; a declaration, whose serial may be refused at its turn; the owner of
 // a serial; a drain.
-#[derive(Drop)]
+#[derive(Clone, Copy)]
 pub enum Record {
     Call(Call),
     Declare(Serial),
@@ -42,7 +44,7 @@ pub enum Record {
 
 // What is read at a cursor: nothing more, a record with the cursor after it, or why the reading
 // stops.
-#[derive(Drop)]
+#[derive(Clone, Copy)]
 pub enum Reading {
     End,
     Stopped(Refusal),

@@ -2,6 +2,8 @@
 // key, whether some node is not out, and whether a notice to a node waits. Counts past the arrays
 // are cut. The crate `readings` does the same where a network lies, by the same definitions and
 // tests.
+#![tactic(auto)]
+
 ghost use Rattle.std.specs.Prelude.{◌≡◌, not, ◌≤◌, get_or, take, eqb};
 ghost use Rattle.predicates.specs.Tests.{every_below, any};
 ghost use Rattle.parts.specs.Tests.{is_out};
@@ -16,7 +18,7 @@ use protocol::Order;
 
 // What is found: whether a node has the key that is declared, whether some node is not out, and
 // whether a notice to a node waits. What an order does not ask is false.
-#[derive(Drop)]
+#[derive(Clone, Copy)]
 pub struct Found {
     pub taken: bool,
     pub standing: bool,

@@ -1,4 +1,6 @@
 // Sequence numbers (R1.2): made, compared and advanced here and nowhere else.
+#![tactic(auto, unfolding(crate::specs::Sequence::first_seq, crate::specs::Sequence::last_seq, crate::specs::Sequence::next_seq, crate::specs::Sequence::same, crate::specs::Sequence::newer, crate::specs::Sequence::has_next, crate::specs::Sequence::capped_next))]
+
 ghost use Rattle.std.specs.Prelude.{◌≡◌};
 ghost use Rattle.sequence.specs.Sequence.{first_seq, same, newer, has_next, capped_next};
 

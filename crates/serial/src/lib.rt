@@ -1,11 +1,13 @@
 // A cell's serial (R1.1), from each of the forms that reach us: four bytes of packed BCD or of
 // binary (R9.4), a number handed in. Each reader is total: it answers the serial, or what is wrong
 // with it, for every input.
+#![tactic(auto)]
+
 ghost use Rattle.std.specs.Prelude.{◌≡◌, ◌+◌, ◌*◌, ◌/◌, ◌%◌, ◌<◌, [], ◌∷◌, reverse};
 ghost use Rattle.serial.specs.Serial.{in_range, handed_of, packed_of, binary_of, positional, digits, all_decimal};
 
 // A serial that was read, or why there is none: refusal 3 or 4, and no other.
-#[derive(Drop)]
+#[derive(Clone, Copy)]
 pub enum Serial {
     Value(u32),
     BadDigit,

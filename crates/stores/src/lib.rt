@@ -2,6 +2,8 @@
 // value, by the same definitions, with no array copied. Each function is walked by hand, since the
 // borrow checker does not cover a reference to a struct. What such walks share is proved here, for
 // the crates on top of this one too.
+#![tactic(auto)]
+
 ghost use Rattle.std.specs.Prelude.{◌≡◌, ◌+◌, ◌<◌, ◌≤◌, length};
 ghost use Rattle.parts.specs.Posts.{posted as listed};
 ghost use Rattle.access.specs.Changes.{placed, added, closed, all_posted, written, committed};

@@ -1,6 +1,8 @@
 // A record of a script as a task: what a network is asked, or what is only told. A serial that is
 // refused at its turn has become its refusal where nothing comes before it, and what cannot be read
 // is told too, so that who executes a task has four cases.
+#![tactic(auto)]
+
 ghost use Rattle.std.specs.Prelude.{◌≡◌, length};
 ghost use Rattle.script.specs.Script.{read_at};
 ghost use Rattle.task.specs.Tasks.{declaring, task_of, task_read, cursor_after, Asks};
@@ -11,7 +13,7 @@ use script::{Reading, Record};
 use serial::Serial;
 
 // What a network is asked: a refusal to be told, a call, the owner of a serial, a drain.
-#[derive(Drop)]
+#[derive(Clone, Copy)]
 pub enum Task {
     Refuse(Refusal),
     Call(Call),
@@ -20,7 +22,7 @@ pub enum Task {
 }
 
 // What is read at a cursor: the task, and the cursor after it.
-#[derive(Drop)]
+#[derive(Clone, Copy)]
 pub struct Asked {
     pub task: Task,
     pub after: usize,

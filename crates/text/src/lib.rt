@@ -1,5 +1,7 @@
 // Text in a buffer: a piece of bytes, or a number in decimal, put from a place on. Where a piece
 // does not fit nothing is written, so no function asks anything of its caller.
+#![tactic(auto)]
+
 ghost use Rattle.std.specs.Prelude.{◌≡◌, ◌+◌, ltb};
 ghost use Rattle.io.specs.Digits.{IsDigitCount};
 ghost use Rattle.text.specs.Text.{decimal};

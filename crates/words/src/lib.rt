@@ -1,5 +1,7 @@
 // The words for what a step did (R9.7), put into a text. A word is put with the space before it and
 // the line end after it, as one constant.
+#![tactic(auto)]
+
 ghost use Rattle.text.specs.Buffers.{Put};
 ghost use Rattle.words.specs.Endings.{outcome_ending};
 
