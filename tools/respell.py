@@ -134,7 +134,7 @@ def turned(text, proof):
     if proof:
         return TOKEN.sub(lambda m: turn(m.group(0), proof), text)
     # In code, literals keep their text.
-    return re.sub(LITERAL.pattern + "|" + TOKEN.pattern, lambda m: m.group(0) if LITERAL.fullmatch(m.group(0)) else turn(m.group(0), proof), text)
+    return re.sub(LITERAL.pattern + "|" + TOKEN.pattern, lambda m: m.group(0) if LITERAL.fullmatch(m.group(0)) else turn(m.group(0), proof), text, flags=re.S)
 
 
 faults = []

@@ -50,13 +50,13 @@ pub fn order(network: &Sheet) -> usize {
     }
     match byte(network, 0) * 256 + byte(network, 1) {
         0x4243 => BC,
-        0x424_e => BN,
+        0x424E => BN,
         0x4352 => CR,
-        0x4_a4_e => JN,
-        0x4_c56 => LV,
-        0x444_c => DL,
-        0x4_f43 => OC,
-        0x4_f4_e => ON,
+        0x4A4E => JN,
+        0x4C56 => LV,
+        0x444C => DL,
+        0x4F43 => OC,
+        0x4F4E => ON,
         0x5244 => RD,
         _ => UNKNOWN,
     }

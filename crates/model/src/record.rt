@@ -50,7 +50,7 @@ pub fn mark(page: &mut Page, at: usize, order: usize) -> usize {
     say(
         page,
         at,
-        b"BCBNCRJNLVDLOCONRD--bc_jn_xx",
+        b"BCBNCRJNLVDLOCONRD--bcJnXX",
         start,
         start + 2,
         0,

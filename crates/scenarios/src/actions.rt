@@ -14,10 +14,10 @@ pub(crate) fn notices(run: &mut Sheet) {
           BC\x00\x00\x30\x00\
           BC\x00\x00\x40\x00\
           CR\x00\
-          JN\x01\x00\x00_dl\x00_dl\x00_dl\x00\
-          JN\x02\x01\x00_dl\x00_dl\x00_dl\x00\
-          JN\x03\x02\x00_dl\x00_dl\x00_dl\x00\
-          LV\x00_dl\x00",
+          JN\x01\x00\x00DL\x00DL\x00DL\x00\
+          JN\x02\x01\x00DL\x00DL\x00DL\x00\
+          JN\x03\x02\x00DL\x00DL\x00DL\x00\
+          LV\x00DL\x00",
     );
     // R5.12: the second notice overtakes the first, which then changes nothing, so that node 0 asks
     // node 2.
@@ -28,12 +28,12 @@ pub(crate) fn notices(run: &mut Sheet) {
           BC\x00\x00\x20\x00\
           BC\x00\x00\x30\x00\
           CR\x00\
-          JN\x01\x00\x00_dl\x00_dl\x01\
-          JN\x02\x01\x00_dl\x01\
+          JN\x01\x00\x00DL\x00DL\x01\
+          JN\x02\x01\x00DL\x01\
           DL\x01\
           DL\x00\
           DL\x00\
-          LV\x00_dl\x00",
+          LV\x00DL\x00",
     );
     // R5.4, R5.6, R5.8: node 1 comes, goes and comes again, and its granter goes on from the number
     // of the leave. So each notice to node 0 is newer.
@@ -43,10 +43,10 @@ pub(crate) fn notices(run: &mut Sheet) {
           BC\x00\x00\x10\x00\
           BC\x00\x00\x20\x00\
           CR\x00\
-          JN\x01\x00\x00_dl\x00_dl\x00_dl\x00\
-          LV\x01_dl\x00_dl\x00_dl\x00\
-          JN\x01\x00\x00_dl\x00_dl\x00_dl\x00\
-          LV\x00_dl\x00",
+          JN\x01\x00\x00DL\x00DL\x00DL\x00\
+          LV\x01DL\x00DL\x00DL\x00\
+          JN\x01\x00\x00DL\x00DL\x00DL\x00\
+          LV\x00DL\x00",
     );
     // R5.2: node 1 leaves with the left number 1 and joins with it again. So the notice of
     // 2's leave has 2 and is taken, and node 1 asks node 0.
@@ -57,12 +57,12 @@ pub(crate) fn notices(run: &mut Sheet) {
           BC\x00\x00\x30\x00\
           BC\x00\x00\x20\x00\
           CR\x00\
-          JN\x01\x00\x00_rd\xff\xff\
-          JN\x02\x00\x01_dl\x00_dl\x00_dl\x00\
-          LV\x01_rd\xff\xff\
-          JN\x01\x02\x00_rd\xff\xff\
-          LV\x02_dl\x00_dl\x00_dl\x00\
-          LV\x01_dl\x00",
+          JN\x01\x00\x00RD\xff\xff\
+          JN\x02\x00\x01DL\x00DL\x00DL\x00\
+          LV\x01RD\xff\xff\
+          JN\x01\x02\x00RD\xff\xff\
+          LV\x02DL\x00DL\x00DL\x00\
+          LV\x01DL\x00",
     );
     // R5.1, R5.3: node 0 has the left number 2 when it leaves alone. Created again it has the first
     // numbers, and a notice with 1 is newer.
@@ -72,11 +72,11 @@ pub(crate) fn notices(run: &mut Sheet) {
           BC\x00\x00\x10\x00\
           BC\x00\x00\x20\x00\
           CR\x00\
-          JN\x01\x00\x00_rd\xff\xff\
-          LV\x01_rd\xff\xff\
+          JN\x01\x00\x00RD\xff\xff\
+          LV\x01RD\xff\xff\
           LV\x00\
           CR\x00\
-          JN\x01\x00\x00_dl\x00_dl\x00",
+          JN\x01\x00\x00DL\x00DL\x00",
     );
 }
 
@@ -104,9 +104,9 @@ pub(crate) fn drops(run: &mut Sheet) {
           BC\x00\x00\x20\x00\
           BC\x00\x00\x30\x00\
           CR\x00\
-          JN\x01\x00\x00_rd\xff\xff\
-          JN\x02\x01\x00_rd\xff\xff\
-          LV\x02_lv\x01_dl\x01_dl\x02\
+          JN\x01\x00\x00RD\xff\xff\
+          JN\x02\x01\x00RD\xff\xff\
+          LV\x02LV\x01DL\x01DL\x02\
           DL\x00\
           OC\x02\x00\x00\x25\x00\
           RD\xff\xff\
@@ -120,8 +120,8 @@ pub(crate) fn drops(run: &mut Sheet) {
           BC\x00\x00\x10\x00\
           BC\x00\x00\x20\x00\
           CR\x00\
-          JN\x01\x00\x00_dl\x00_dl\x01\
-          LV\x01_dl\x01_dl\x02\
+          JN\x01\x00\x00DL\x00DL\x01\
+          LV\x01DL\x01DL\x02\
           LV\x00\
           DL\x01\
           DL\x00\
@@ -138,11 +138,11 @@ pub(crate) fn denials(run: &mut Sheet) {
           BC\x00\x00\x10\x00\
           BC\x00\x00\x20\x00\
           CR\x00\
-          JN\x01\x00\x00_rd\xff\xff\
-          LV\x00_lv\x01\
-          DL\x00_dl\x00\
-          DL\x00_dl\x00\
-          LV\x01_dl\x00",
+          JN\x01\x00\x00RD\xff\xff\
+          LV\x00LV\x01\
+          DL\x00DL\x00\
+          DL\x00DL\x00\
+          LV\x01DL\x00",
     );
     // R5.5, R5.11: node 1 is leaving when node 2 asks it, and node 2 is out again.
     scene(
@@ -152,11 +152,11 @@ pub(crate) fn denials(run: &mut Sheet) {
           BC\x00\x00\x20\x00\
           BC\x00\x00\x30\x00\
           CR\x00\
-          JN\x01\x00\x00_rd\xff\xff\
+          JN\x01\x00\x00RD\xff\xff\
           LV\x01\
-          JN\x02\x01\x00_dl\x01_dl\x01\
+          JN\x02\x01\x00DL\x01DL\x01\
           DL\x00\
-          JN\x02\x00\x00_rd\xff\xff",
+          JN\x02\x00\x00RD\xff\xff",
     );
     // R5.5: node 1 asks node 0, on whose right is node 2 by now; then node 2, which has not heard
     // that it is in; then node 2 once more.
@@ -167,12 +167,12 @@ pub(crate) fn denials(run: &mut Sheet) {
           BC\x00\x00\x30\x00\
           BC\x00\x00\x20\x00\
           CR\x00\
-          JN\x01\x00\x00_rd\xff\xff\
-          JN\x02\x00\x01_dl\x00\
-          LV\x01_dl\x02_dl\x02\
+          JN\x01\x00\x00RD\xff\xff\
+          JN\x02\x00\x01DL\x00\
+          LV\x01DL\x02DL\x02\
           DL\x00\
-          LV\x01_dl\x01_dl\x01\
+          LV\x01DL\x01DL\x01\
           DL\x00\
-          LV\x01_dl\x00",
+          LV\x01DL\x00",
     );
 }

@@ -21,7 +21,7 @@ pub(crate) fn declare_all(script: &mut [u8; 4096]) -> usize
 {
     let mut at: usize = 0;
     for node in 0..32 {
-        at = put(script, at, &[b'b', b'n', 32 - node, 0, 0, 0]);
+        at = put(script, at, &[b'B', b'N', 32 - node, 0, 0, 0]);
     }
     at
 }
@@ -34,7 +34,7 @@ pub(crate) fn ask_all(script: &mut [u8; 4096], at: usize, last: u8) -> usize
 {
     let mut at = put(script, at, b"CR\x00");
     for before in 0..last {
-        at = put(script, at, &[b'j', b'n', before + 1, 0, before]);
+        at = put(script, at, &[b'J', b'N', before + 1, 0, before]);
     }
     at
 }
@@ -49,9 +49,9 @@ fn leave_again(script: &mut [u8; 4096], at: usize, last: u8, leavers: u8) -> usi
     let mut at = at;
     for gone in 0..leavers {
         let node = last - gone;
-        at = put(script, at, &[b'd', b'l', 2 * node - 1]);
-        at = put(script, at, &[b'l', b'v', node]);
-        at = put(script, at, &[b'd', b'l', 2 * last + gone - 1]);
+        at = put(script, at, &[b'D', b'L', 2 * node - 1]);
+        at = put(script, at, &[b'L', b'V', node]);
+        at = put(script, at, &[b'D', b'L', 2 * last + gone - 1]);
     }
     at
 }
@@ -75,7 +75,7 @@ pub(crate) fn scene_after(run: &mut Sheet, joiners: u8, leavers: u8, text: &[u8]
     let mut script = io::buffer();
     let at = declare_all(&mut script);
     let at = ask_all(&mut script, at, joiners);
-    let at = put(&mut script, at, &[b'r', b'd', joiners, 0]);
+    let at = put(&mut script, at, &[b'R', b'D', joiners, 0]);
     let at = leave_again(&mut script, at, joiners, leavers);
     show_on(run, script, at, text);
 }

@@ -37,9 +37,9 @@ fn refused_place(run: &mut Sheet) {
         b"with 64 waiting, a drain passes over a request that is refused 28\n\
           JN\x1f\x00\x1b\
           RD\x1e\x00\
-          DL\x3c_lv\x1e_dl\x3c\
-          DL\x3a_lv\x1d_dl\x3d\
-          DL\x38_lv\x1c_dl\x3e\
+          DL\x3cLV\x1eDL\x3c\
+          DL\x3aLV\x1dDL\x3d\
+          DL\x38LV\x1cDL\x3e\
           RD\x00\x00\
           DL\x00\
           RD\x01\x00\

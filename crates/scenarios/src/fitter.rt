@@ -20,8 +20,8 @@ pub(crate) fn cases(run: &mut Sheet) {
         31,
         2,
         b"no 28: with 64 waiting, a request to be granted; one to be denied is delivered\n\
-          DL\x39_lv\x1d\
-          DL\x01_lv\x01\
+          DL\x39LV\x1d\
+          DL\x01LV\x01\
           RD\x00\x00\
           DL\x3e\
           DL\x3f\
@@ -29,7 +29,7 @@ pub(crate) fn cases(run: &mut Sheet) {
           DL\x3e\
           DL\x00\
           DL\x3d\
-          DL\x3d_dl\x3e\
+          DL\x3dDL\x3e\
           RD\xff\xff",
     );
 }

@@ -57,13 +57,13 @@ pub(crate) fn orders(run: &mut Sheet) {
           BC\x00\x00\x10\x00\
           BC\x00\x00\x20\x00\
           CR\x00\
-          JN\x01\x00\x00_dl\x00_dl\x01\
-          LV\x01_dl\x01_dl\x02\
+          JN\x01\x00\x00DL\x00DL\x01\
+          LV\x01DL\x01DL\x02\
           LV\x00\
           CR\x00\
           CR\x01\
           JN\x00\x01\x01\
-          DL\x00_dl\x00\
+          DL\x00DL\x00\
           JN\x00\x01\x01",
     );
     // R6.8, refusal 26: it is out, joining or leaving.
@@ -117,8 +117,8 @@ pub(crate) fn full_queues(run: &mut Sheet) {
           JN\x18\x00\x01\
           LV\x00\
           DL\x3e\
-          DL\x01_lv\x01\
-          DL\x00_dl\x3e\
+          DL\x01LV\x01\
+          DL\x00DL\x3e\
           RD\x00\x00\
           LV\x00\
           RD\xff\xff\

@@ -55,19 +55,19 @@ pub enum Reading {
 // among nine numbers, and not two tests for each mark in turn.
 const BC: u16 = 0x4243;
 
-const BN: u16 = 0x424_e;
+const BN: u16 = 0x424E;
 
 const CR: u16 = 0x4352;
 
-const JN: u16 = 0x4_a4_e;
+const JN: u16 = 0x4A4E;
 
-const LV: u16 = 0x4_c56;
+const LV: u16 = 0x4C56;
 
-const DL: u16 = 0x444_c;
+const DL: u16 = 0x444C;
 
-const OC: u16 = 0x4_f43;
+const OC: u16 = 0x4F43;
 
-const ON: u16 = 0x4_f4_e;
+const ON: u16 = 0x4F4E;
 
 const RD: u16 = 0x5244;
 
