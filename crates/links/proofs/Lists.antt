@@ -65,7 +65,7 @@ module _ (key : ℕ → ℕ) where
   lower-differs h e = let k = ap key e in omega arith
 
   pub once : (m : ℕ) {L : List ℕ} → Ascending key L → m ∈ L → times m L ≡ 1
-  once m h (here {x = a} {xs = l} e) = rw e (omega (arith, bit-true (eq-eqb a a refl), never a l (λ i. lower-differs (h.0 a i) refl)))
+  once m h (here {x = a} {xs = l} e) = omega (arith, bit-true (eq-eqb m a e), never m l (λ i. lower-differs (h.0 m i) (sym e)))
   once m h (there {x = a} i) = omega (arith, bit-false (ne_eqb m a (λ e. lower-differs (h.0 m i) (sym e))), once m h.1 i)
 
   pub ascending-from : (pre l : List ℕ) → Ascending key (pre ++ l) → Ascending key l

@@ -56,7 +56,7 @@ module _ (key : ℕ → ℕ) where
 
   -- ---- one list for the same members
   -- no two members have one key
-  pub one-of-key : {L : List ℕ} {x y : ℕ} → Ascending key L → x ∈ L → y ∈ L → key x ≡ key y → x ≡ y
+  pub one-of-key : {x y : ℕ} {L : List ℕ} → Ascending key L → x ∈ L → y ∈ L → key x ≡ key y → x ≡ y
   one-of-key asc (here e) (here f) same = e ∙ sym f
   one-of-key {y} asc (here e) (there j) same = absurd (omega (arith, asc.0 y j, ap key e))
   one-of-key {x} asc (there i) (here f) same = absurd (omega (arith, asc.0 x i, ap key f))

@@ -63,7 +63,7 @@ create_case s u clear =
     let (ok, (known, (out, (no_notice, _)))) = cleared (create_rules s u) clear in
     let w = well-formed s (not-false (well_formed s) ok) in
     let declared : u < length s.nodes = tested-below u _ known in
-    let all_out = below_at (length s.nodes) (λ v. is_out (status_at s v)) (not-false _ out) in
+    let all-out = below_at (length s.nodes) (λ v. is_out (status_at s v)) (not-false _ out) in
     let sound = well-formed-among w.few_nodes u declared (w.node u declared) in
     creates u refl record {
       declared = declared;

@@ -148,7 +148,7 @@ module _ (h : History) (g : Good h) where
       let below : (u : ℕ) → ltb u size ≡ true → u ≢ size = λ u k d. omega (arith, ltb-true u size k) in
       (below v fits.sender, below p fits.to, below e (both (ltb new size) (ltb e size) fits.kind).1)
 
-  pub all_out : ((v : ℕ) → v < length h.state.nodes → status_at h.state v ≡ Out) → (v : ℕ) → status_at h.state v ≡ Out
+  pub all-out : ((v : ℕ) → v < length h.state.nodes → status_at h.state v ≡ Out) → (v : ℕ) → status_at h.state v ≡ Out
   all-out out v = go (dec_lt v (length h.state.nodes))
     where
       go : Dec (v < length h.state.nodes) → status_at h.state v ≡ Out

@@ -48,7 +48,7 @@ cut_out pre post m = record {
 }
 
 -- any message that waits can be taken
-pub taken_out : {ms : List Message} {m : Message} → m ∈ ms → (rest : List Message) × Taken ms m rest
+pub taken_out : {m : Message} {ms : List Message} → m ∈ ms → (rest : List Message) × Taken ms m rest
 taken_out (here {x = x} {xs = xs} e) = (xs, rw e (cut_out [] xs x))
 taken_out (there {x = x} {xs = xs} i) = let (rest, t) = taken_out i in (x ∷ rest, behind x t)
   where
