@@ -16,4 +16,4 @@ pub record Lengths (n : Network) : Type 0 where
   pub messages : length n.messages ≡ queue_limit
 
 pub lengths : (n : Network) (vs : List Val) → Is (row the_type) n vs → Lengths n
-lengths n vs owned = record { nodes = rw length-map at owned.1.1.0.1.0.1; messages = rw length-map at owned.1.1.1.1.0.1.0.1 }
+lengths n vs owned = record { nodes = owned.1.1.0.1.0.1; messages = owned.1.1.1.1.0.1.0.1 }
