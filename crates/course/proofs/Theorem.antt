@@ -64,7 +64,7 @@ module _ (calls : List Call) where
   one-call call = record { state = sym (state_append calls (call ∷ [])); posts = omega arith }
 
   well-formed : T (well_formed here)
-  well_formed = (ring calls).well_formed
+  well-formed = (ring calls).well_formed
 
   drained-so : (budget : ℕ) → Follows calls (map Deliver (places budget here)) (drain_of here budget)
   drained-so budget = let d = drain_is_calls calls budget in record { state = d.state; posts = d.posts }
