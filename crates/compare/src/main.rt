@@ -14,6 +14,7 @@ use model::record::mark;
 use model::sheet::*;
 use model::text::*;
 use playing::*;
+use std::io;
 use std::num::{wrapping_add_usize as plus, wrapping_sub_usize as minus};
 
 const ALL_SCRIPTS: usize = 1000;
@@ -111,25 +112,26 @@ fn difference_line(sheet: &Sheet, page: &mut Page, at: usize) -> usize {
     )
 }
 
-fn show(page: &[u8], length: usize) {
+fn show(rt: &impl Print, page: &[u8], length: usize) -> io::Result<()> {
     if length <= page.len() {
-        io::write_all(libc::STDOUT_FILENO, &page[0..length]);
+        rt.write_all(&page[0..length])?;
     }
+    Ok(())
 }
 
 // The page is used for the scripts and then for what is told of them.
-fn run(sheet: &mut Sheet, page: &mut Page) {
+fn run(rt: &impl Print, sheet: &mut Sheet, page: &mut Page) -> io::Result<()> {
     for done in 0..ALL_SCRIPTS {
         turn(sheet, page, minus(ALL_SCRIPTS, done));
     }
     let tallied = tallies(sheet, page);
     let told = summary(sheet, page, tallied);
     let length = difference_line(sheet, page, told);
-    show(page, length);
+    show(rt, page, length)
 }
 
-fn main() {
+fn main(rt: HostRuntime) -> io::Result<()> {
     let mut sheet: Sheet = [0usize; 4096];
     let mut page: Page = [0u8; 1048576];
-    run(&mut sheet, &mut page);
+    run(&rt, &mut sheet, &mut page)
 }

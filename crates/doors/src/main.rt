@@ -15,6 +15,7 @@ mod same;
 use engine::Called;
 use network::Network;
 use protocol::{Answer, Call, Order, Reply};
+use std::io;
 
 // Five calls and a drain by value, the same in place, and the two questions.
 const DOORS: u32 = 14;
@@ -84,70 +85,82 @@ fn few(n: u32) -> u32
     if n == 0 { 0 } else { 1 }
 }
 
-fn print(text: &[u8], n: u32) {
-    io::write_all(1, text);
-    io::print_decimal(1, n as u64);
-    io::write_all(1, b"\n");
+fn print(rt: &impl Print, text: &str, n: u32) -> io::Result<()> {
+    println!(rt; "{text}{n}")
 }
 
 // One rule of well-formedness broken at a time.
-fn by_rule(sound: Network) {
+fn by_rule(rt: &impl Print, sound: Network) -> io::Result<()> {
     print(
-        b"R2.2, 33 nodes: ",
+        rt,
+        "R2.2, 33 nodes: ",
         refused(faults::full_of_nodes(sound, 33)),
-    );
+    )?;
     print(
-        b"R2.2, 65 messages: ",
+        rt,
+        "R2.2, 65 messages: ",
         refused(faults::full_of_messages(sound, 65)),
-    );
+    )?;
     print(
-        b"R2.3, a node past the count: ",
+        rt,
+        "R2.3, a node past the count: ",
         refused(faults::node_past_the_count(sound)),
-    );
+    )?;
     print(
-        b"R2.3, a message past the count: ",
+        rt,
+        "R2.3, a message past the count: ",
         refused(faults::message_past_the_count(sound)),
-    );
+    )?;
     print(
-        b"R2.4, the key of another node: ",
+        rt,
+        "R2.4, the key of another node: ",
         refused(faults::key_of_another(sound)),
-    );
+    )?;
     print(
-        b"R2.4, a key out of range: ",
+        rt,
+        "R2.4, a key out of range: ",
         refused(faults::key_out_of_range(sound)),
-    );
+    )?;
     print(
-        b"R2.5, a link to an undeclared node: ",
+        rt,
+        "R2.5, a link to an undeclared node: ",
         refused(faults::link_undeclared(sound)),
-    );
+    )?;
     print(
-        b"R2.5, a message to an undeclared node: ",
+        rt,
+        "R2.5, a message to an undeclared node: ",
         refused(faults::addressee_undeclared(sound)),
-    );
+    )?;
     print(
-        b"R2.5, a notice of an undeclared node: ",
+        rt,
+        "R2.5, a notice of an undeclared node: ",
         refused(faults::left_undeclared(sound)),
-    );
+    )?;
     print(
-        b"R2.6, a node that is in without links: ",
+        rt,
+        "R2.6, a node that is in without links: ",
         refused(faults::links_missing(sound)),
-    );
+    )?;
     print(
-        b"R2.6, a node that is in without a right number: ",
+        rt,
+        "R2.6, a node that is in without a right number: ",
         refused(faults::number_missing(sound)),
-    );
+    )?;
     print(
-        b"R2.7, two answers to one node: ",
+        rt,
+        "R2.7, two answers to one node: ",
         refused(faults::two_answers(sound)),
-    );
+    )?;
     print(
-        b"R2.7, an answer to a node that is in: ",
+        rt,
+        "R2.7, an answer to a node that is in: ",
         refused(faults::answer_unasked(sound)),
-    );
+    )?;
     print(
-        b"R2.7, a request from a node that is in: ",
+        rt,
+        "R2.7, a request from a node that is in: ",
         refused(faults::request_unasked(sound)),
-    );
+    )
 }
 
 // The number of the refusal in an answer; 0 where there is none.
@@ -160,57 +173,61 @@ fn number_of(answer: Answer) -> u32 {
 
 // What no script comes to: a well-formed network that is no ring, on which an owner is not found,
 // and a right number that is the last.
-fn no_ring() {
+fn no_ring(rt: &impl Print) -> io::Result<()> {
     let network = faults::no_ring();
     let called = engine::apply(network, Call::Order(Order::Leave(0)));
     let report = called.report;
     let answer = report.answer;
-    print(b"R2.1, a network that is no ring: ", refused(network));
+    print(rt, "R2.1, a network that is no ring: ", refused(network))?;
     print(
-        b"R7.2, its owner of 2,500, from 0, is refused: ",
+        rt,
+        "R7.2, its owner of 2,500, from 0, is refused: ",
         number_of(engine::owner(network, 0, 2_500)),
-    );
+    )?;
     print(
-        b"R6.8, a leave of 0, at the last number, is refused: ",
+        rt,
+        "R6.8, a leave of 0, at the last number, is refused: ",
         number_of(answer),
-    );
+    )
 }
 
 // R10.13: such a network is drained all the same, by no more deliveries than its load, which is
 // three, and is left well formed.
-fn drained() {
+fn drained(rt: &impl Print) -> io::Result<()> {
     let network = faults::no_ring_with_a_request();
     let called = engine::drain(network, 9);
     let left = called.network;
     let report = called.report;
     let answer = report.answer;
     let Answer::Done(reply) = answer else {
-        return;
+        return Ok(());
     };
     let Reply::Ran { made, left: _ } = reply else {
-        return;
+        return Ok(());
     };
     print(
-        b"R10.13, a drain of such a network, with a request that is granted, makes deliveries: ",
+        rt,
+        "R10.13, a drain of such a network, with a request that is granted, makes deliveries: ",
         made as u32,
-    );
+    )?;
     print(
-        b"R10.13, of the networks before and after it, so many are well formed: ",
+        rt,
+        "R10.13, of the networks before and after it, so many are well formed: ",
         few(one_if(network.is_well_formed())) + few(one_if(left.is_well_formed())),
-    );
+    )
 }
 
 // R4.2: the word of the inserted nodes, and its ones.
-fn members(network: Network) {
+fn members(rt: &impl Print, network: Network) -> io::Result<()> {
     let answer = engine::inserted(network);
     let Answer::Done(reply) = answer else {
-        return;
+        return Ok(());
     };
     let Reply::Inserted { word, size } = reply else {
-        return;
+        return Ok(());
     };
-    print(b"R4.2, the word of the inserted nodes 0 and 1: ", word);
-    print(b"R4.2, its ones: ", size);
+    print(rt, "R4.2, the word of the inserted nodes 0 and 1: ", word)?;
+    print(rt, "R4.2, its ones: ", size)
 }
 
 // Of the networks drawn, how many are well formed, and how many others every door refuses.
@@ -237,31 +254,35 @@ fn by_chance() -> Count {
     Count { well_formed, right }
 }
 
-fn main() {
+fn main(rt: HostRuntime) -> io::Result<()> {
     let sound = faults::sound();
-    print(b"doors in all: ", DOORS);
+    print(&rt, "doors in all: ", DOORS)?;
     print(
-        b"doors that refuse 6 a well-formed network: ",
+        &rt,
+        "doors that refuse 6 a well-formed network: ",
         refused(sound),
-    );
+    )?;
     print(
-        b"the same with 32 nodes: ",
+        &rt,
+        "the same with 32 nodes: ",
         refused(faults::full_of_nodes(sound, 32)),
-    );
+    )?;
     print(
-        b"the same with 64 messages: ",
+        &rt,
+        "the same with 64 messages: ",
         refused(faults::full_of_messages(sound, 64)),
-    );
-    io::write_all(
-        1,
-        b"doors that refuse 6 the same network with one rule broken:\n",
-    );
-    by_rule(sound);
-    no_ring();
-    drained();
-    members(sound);
+    )?;
+    rt.println("doors that refuse 6 the same network with one rule broken:")?;
+    by_rule(&rt, sound)?;
+    no_ring(&rt)?;
+    drained(&rt)?;
+    members(&rt, sound)?;
     let count = by_chance();
-    print(b"networks made by chance: ", DRAWN);
-    print(b"of them well formed: ", count.well_formed);
-    print(b"refused 6 by every door, and handed back: ", count.right);
+    print(&rt, "networks made by chance: ", DRAWN)?;
+    print(&rt, "of them well formed: ", count.well_formed)?;
+    print(
+        &rt,
+        "refused 6 by every door, and handed back: ",
+        count.right,
+    )
 }

@@ -6,6 +6,7 @@ ghost use Rattle.io.specs.Counts.{IsPrefixLen};
 
 use crate::{line_end, show};
 use model::sheet::Sheet;
+use std::io;
 
 fn put(script: &mut [u8; 4096], at: usize, records: &[u8]) -> usize
     requires { IsPrefixLen at script.old }
@@ -57,25 +58,37 @@ fn leave_again(script: &mut [u8; 4096], at: usize, last: u8, leavers: u8) -> usi
 }
 
 // Shows a script that begins with the records put so far, and goes on with those behind a title.
-pub(crate) fn show_on(run: &mut Sheet, script: [u8; 4096], at: usize, text: &[u8])
+pub(crate) fn show_on(
+    rt: &impl Print,
+    run: &mut Sheet,
+    script: [u8; 4096],
+    at: usize,
+    text: &[u8],
+) -> io::Result<()>
     requires { IsPrefixLen at script }
 {
     let mut script = script;
     let start = line_end(text);
     let used = put(&mut script, at, &text[start..]);
-    show(run, &text[0..start], &script[..used]);
+    show(rt, run, &text[0..start], &script[..used])
 }
 
 // Shows a script that begins with joins and leaves. RD delivers just the requests to join. Then 2 *
 // joiners messages wait: of node i the left notice to its right at 2 * i - 2, and the answer at 2 *
 // i - 1. After the leaves 2 * joiners + leavers wait.
-pub(crate) fn scene_after(run: &mut Sheet, joiners: u8, leavers: u8, text: &[u8])
+pub(crate) fn scene_after(
+    rt: &impl Print,
+    run: &mut Sheet,
+    joiners: u8,
+    leavers: u8,
+    text: &[u8],
+) -> io::Result<()>
     requires { (leavers ≤ joiners) × (joiners ≤ 31) }
 {
-    let mut script = io::buffer();
+    let mut script = [0u8; 4096];
     let at = declare_all(&mut script);
     let at = ask_all(&mut script, at, joiners);
     let at = put(&mut script, at, &[b'R', b'D', joiners, 0]);
     let at = leave_again(&mut script, at, joiners, leavers);
-    show_on(run, script, at, text);
+    show_on(rt, run, script, at, text)
 }

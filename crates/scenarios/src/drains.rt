@@ -1,11 +1,13 @@
 // Where a drain ends, and what it delivers.
 use crate::{crowd, scene};
 use model::sheet::Sheet;
+use std::io;
 
-pub(crate) fn cases(run: &mut Sheet) {
+pub(crate) fn cases(rt: &impl Print, run: &mut Sheet) -> io::Result<()> {
     // R8.1, R8.2, R9.3: budgets of 0, of 1 and 2 with more waiting, and of 256 and 65,535 with
     // less.
     scene(
+        rt,
         run,
         b"a drain ends with its budget, or when nothing waits\n\
           BC\x00\x00\x10\x00\
@@ -19,18 +21,19 @@ pub(crate) fn cases(run: &mut Sheet) {
           RD\x02\x00\
           RD\x00\x01\
           RD\xff\xff",
-    );
-    refused_place(run);
+    )?;
+    refused_place(rt, run)
 }
 
 // R8.1, R6.10, refusal 28: the request of node 31 comes to stand at place 0, before the notices and
 // answers of the nodes 1 to 30, and once 30, 29 and 28 have left, 64 messages wait and node 0 would
 // grant it. A drain of 1 delivers the notice at place 1; then, with 63 waiting, the request.
-fn refused_place(run: &mut Sheet) {
-    let mut script = io::buffer();
+fn refused_place(rt: &impl Print, run: &mut Sheet) -> io::Result<()> {
+    let mut script = [0u8; 4096];
     let at = crowd::declare_all(&mut script);
     let at = crowd::ask_all(&mut script, at, 30);
     crowd::show_on(
+        rt,
         run,
         script,
         at,
@@ -47,5 +50,5 @@ fn refused_place(run: &mut Sheet) {
           RD\x01\x00\
           ON\x1f\x00\x00\x00\x00\
           RD\xff\xff",
-    );
+    )
 }

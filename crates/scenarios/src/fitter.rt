@@ -1,21 +1,24 @@
 // The fitter's cases of paper 01 that it does not mark †.
 use crate::{crowd, scene};
 use model::sheet::Sheet;
+use std::io;
 
-pub(crate) fn cases(run: &mut Sheet) {
+pub(crate) fn cases(rt: &impl Print, run: &mut Sheet) -> io::Result<()> {
     // R9.4, R9.5, refusal 4: the same four bytes are too large in binary, and a key in packed form.
     scene(
+        rt,
         run,
         b"no 4: BN 00 00 12 34\n\
           BN\x00\x00\x12\x34\
           BC\x00\x00\x12\x34",
-    );
-    full_network(run);
+    )?;
+    full_network(rt, run)?;
     // R6.10, refusal 28: nodes 29 and 1 ask node 0 to leave, and 64 messages wait, as RD with no
     // budget says. The request of 29, which is the right neighbour of 0, would be granted, that of
     // 1 denied. The first is refused before and after the second is delivered; with one message
     // less it is granted.
     crowd::scene_after(
+        rt,
         run,
         31,
         2,
@@ -31,15 +34,16 @@ pub(crate) fn cases(run: &mut Sheet) {
           DL\x3d\
           DL\x3dDL\x3e\
           RD\xff\xff",
-    );
+    )
 }
 
 // R1.7, R6.5, refusal 20: neither a new key nor one that is taken finds a place, and node 31, the
 // last, can be created.
-fn full_network(run: &mut Sheet) {
-    let mut script = io::buffer();
+fn full_network(rt: &impl Print, run: &mut Sheet) -> io::Result<()> {
+    let mut script = [0u8; 4096];
     let at = crowd::declare_all(&mut script);
     crowd::show_on(
+        rt,
         run,
         script,
         at,
@@ -47,5 +51,5 @@ fn full_network(run: &mut Sheet) {
           BN\x21\x00\x00\x00\
           BN\x20\x00\x00\x00\
           CR\x1f",
-    );
+    )
 }

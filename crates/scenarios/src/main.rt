@@ -23,6 +23,7 @@ mod state;
 use model::printing::first_difference;
 use model::sheet::*;
 use model::text::Page;
+use std::io;
 
 // The sheet of the second implementation serves all scripts. In a row that it leaves alone stand
 // how many scripts were run, and how many differed.
@@ -32,30 +33,35 @@ const SCRIPTS: usize = 0;
 
 const DIFFERENT: usize = 1;
 
-fn write_count(count: usize, what: &[u8]) {
-    io::print_decimal(1, count as u64);
-    io::write_all(1, what);
+fn write_count(rt: &impl Print, count: usize, what: &str) -> io::Result<()> {
+    print!(rt; "{count}{what}")
 }
 
 // Counts a script, and says where its printouts differ, if they do.
-fn enter(run: &mut Sheet, place: usize) {
+fn enter(rt: &impl Print, run: &mut Sheet, place: usize) -> io::Result<()> {
     add(run, RUN, SCRIPTS, 1);
     if place > 0 {
         add(run, RUN, DIFFERENT, 1);
-        io::write_all(1, b"== the second implementation differs at byte ");
-        write_count(place, b"\n");
+        rt.print("== the second implementation differs at byte ")?;
+        write_count(rt, place, "\n")?;
     }
+    Ok(())
 }
 
 // Runs a script through both implementations, and writes its title and the printout of the first.
-pub(crate) fn show(run: &mut Sheet, title: &[u8], script: &[u8]) {
+pub(crate) fn show(
+    rt: &impl Print,
+    run: &mut Sheet,
+    title: &[u8],
+    script: &[u8],
+) -> io::Result<()> {
     let mut text: Page = [0u8; 1048576];
     let used = engine::printout(script, &mut text);
-    io::write_all(1, b"== ");
-    io::write_all(1, title);
-    io::write_all(1, &text[..used]);
+    rt.write_all(b"== ")?;
+    rt.write_all(title)?;
+    rt.write_all(&text[..used])?;
     let place = first_difference(run, script, &text, used);
-    enter(run, place);
+    enter(rt, run, place)
 }
 
 // The place after the first line end, or after the text.
@@ -71,33 +77,34 @@ pub(crate) fn line_end(text: &[u8]) -> usize
 }
 
 // Shows a script that stands behind its title, from the next line on.
-pub(crate) fn scene(run: &mut Sheet, text: &[u8]) {
+pub(crate) fn scene(rt: &impl Print, run: &mut Sheet, text: &[u8]) -> io::Result<()> {
     let start = line_end(text);
-    show(run, &text[0..start], &text[start..]);
+    show(rt, run, &text[0..start], &text[start..])
 }
 
-fn summary(run: &Sheet) {
-    io::write_all(1, b"== ");
-    write_count(get(run, RUN, SCRIPTS), b" scripts, ");
+fn summary(rt: &impl Print, run: &Sheet) -> io::Result<()> {
+    rt.print("== ")?;
+    write_count(rt, get(run, RUN, SCRIPTS), " scripts, ")?;
     write_count(
+        rt,
         get(run, RUN, DIFFERENT),
-        b" differ from the second implementation\n",
-    );
+        " differ from the second implementation\n",
+    )
 }
 
-fn main() {
+fn main(rt: HostRuntime) -> io::Result<()> {
     let mut run: Sheet = [0usize; 4096];
-    fitter::cases(&mut run);
-    input::marks(&mut run);
-    input::fields(&mut run);
-    input::sizes(&mut run);
-    state::orders(&mut run);
-    state::full_queues(&mut run);
-    state::deliveries_and_questions(&mut run);
-    actions::notices(&mut run);
-    actions::drops(&mut run);
-    actions::denials(&mut run);
-    drains::cases(&mut run);
-    sheets::all(&mut run);
-    summary(&run);
+    fitter::cases(&rt, &mut run)?;
+    input::marks(&rt, &mut run)?;
+    input::fields(&rt, &mut run)?;
+    input::sizes(&rt, &mut run)?;
+    state::orders(&rt, &mut run)?;
+    state::full_queues(&rt, &mut run)?;
+    state::deliveries_and_questions(&rt, &mut run)?;
+    actions::notices(&rt, &mut run)?;
+    actions::drops(&rt, &mut run)?;
+    actions::denials(&rt, &mut run)?;
+    drains::cases(&rt, &mut run)?;
+    sheets::all(&rt, &mut run)?;
+    summary(&rt, &run)
 }

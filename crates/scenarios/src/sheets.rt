@@ -2,11 +2,13 @@
 // says what it does, and beside each sheet stands its printout, which is the same.
 use crate::scene;
 use model::sheet::Sheet;
+use std::io;
 
-pub(crate) fn all(run: &mut Sheet) {
+pub(crate) fn all(rt: &impl Print, run: &mut Sheet) -> io::Result<()> {
     // R5.5, R5.9, R5.11: node 0 asks to leave before it has heard of its left neighbour, and so
     // asks and denies itself.
     scene(
+        rt,
         run,
         b"paper\n\
           BC\x00\x00\x10\x00\
@@ -21,9 +23,10 @@ pub(crate) fn all(run: &mut Sheet) {
           DL\x00\
           OC\x00\x00\x00\x09\x99\
           DL\x00",
-    );
+    )?;
     // R9.4, R1.1, refusals 3, 4, 5 and 21: the two forms of a serial, taken for each other.
     scene(
+        rt,
         run,
         b"wrong-serial-form\n\
           BC\x00\x00\x12\x34\
@@ -49,10 +52,11 @@ pub(crate) fn all(run: &mut Sheet) {
           OC\x00\x14\x05\x00\x00\
           OC\x00\x00\x00\x00\x0a\
           OC\x09\x00\x00\x00\x0a",
-    );
+    )?;
     // R4.1, R3.2, R5.1, R5.2, R5.3, R5.4, R5.5, R5.6, R5.7, R5.8, R5.10, R7.1, refusal 30: each
     // message of a join and of a leave, and who owns what before and after.
     scene(
+        rt,
         run,
         b"join-and-leave\n\
           BC\x00\x00\x10\x00\
@@ -79,10 +83,11 @@ pub(crate) fn all(run: &mut Sheet) {
           DL\x00\
           LV\x00\
           OC\x00\x00\x00\x25\x00",
-    );
+    )?;
     // R5.5, R5.9, R5.11, R5.12, R6.9, R7.1, refusals 23 and 29: one of four requests is granted,
     // and messages are delivered out of order.
     scene(
+        rt,
         run,
         b"four-at-once\n\
           BC\x00\x00\x10\x00\
@@ -129,5 +134,5 @@ pub(crate) fn all(run: &mut Sheet) {
           OC\x00\x00\x00\x00\x00\
           OC\x02\x00\x00\x00\x00\
           DL\x00",
-    );
+    )
 }

@@ -2,19 +2,22 @@
 // done.
 use crate::{crowd, scene};
 use model::sheet::Sheet;
+use std::io;
 
-pub(crate) fn orders(run: &mut Sheet) {
+pub(crate) fn orders(rt: &impl Print, run: &mut Sheet) -> io::Result<()> {
     // R2.4, R6.5, refusal 21: the same key in another form.
     scene(
+        rt,
         run,
         b"no 21: a key that is taken\n\
           BC\x00\x00\x10\x00\
           BN\xe8\x03\x00\x00\
           BC\x00\x00\x20\x00",
-    );
+    )?;
     // R6.6, R5.1, R5.3, refusal 22: of a node that is in and of another; once all are out node 1
     // can be created.
     scene(
+        rt,
         run,
         b"no 22: a creation while a node is not out\n\
           BC\x00\x00\x10\x00\
@@ -24,9 +27,10 @@ pub(crate) fn orders(run: &mut Sheet) {
           CR\x01\
           LV\x00\
           CR\x01",
-    );
+    )?;
     // R6.7, refusal 23: node 0 is in, and node 1 is joining already.
     scene(
+        rt,
         run,
         b"no 23: a join of a node that is not out\n\
           BC\x00\x00\x10\x00\
@@ -36,9 +40,10 @@ pub(crate) fn orders(run: &mut Sheet) {
           JN\x01\x00\x00\
           JN\x01\x00\x00\
           DL\x00",
-    );
+    )?;
     // R3.1, R6.7, refusal 24: the key of node 2 is above both, or is one of the two.
     scene(
+        rt,
         run,
         b"no 24: a join whose key is not between\n\
           BC\x00\x00\x10\x00\
@@ -48,10 +53,11 @@ pub(crate) fn orders(run: &mut Sheet) {
           JN\x02\x00\x01\
           JN\x02\x00\x02\
           JN\x02\x00\x00",
-    );
+    )?;
     // R6.6, R6.7, R5.13, refusal 25: node 1 joins and leaves, and node 0 leaves alone, before it
     // hears of either. Then it can neither be created nor join.
     scene(
+        rt,
         run,
         b"no 25: a left notice waits for node 0\n\
           BC\x00\x00\x10\x00\
@@ -65,9 +71,10 @@ pub(crate) fn orders(run: &mut Sheet) {
           JN\x00\x01\x01\
           DL\x00DL\x00\
           JN\x00\x01\x01",
-    );
+    )?;
     // R6.8, refusal 26: it is out, joining or leaving.
     scene(
+        rt,
         run,
         b"no 26: a leave of a node that is not in\n\
           BC\x00\x00\x10\x00\
@@ -80,11 +87,12 @@ pub(crate) fn orders(run: &mut Sheet) {
           LV\x01\
           LV\x01\
           DL\x00",
-    );
+    )?;
     // R3.1, R6.7, refusal 24: on the way from 3,000 up past the end of the keys to 1,000 lie
     // neither 2,000 nor the two ends, but 0 and 4,000; from a key round to itself lie all but that
     // one.
     scene(
+        rt,
         run,
         b"no 24: a join where the left key is above the right, or the same\n\
           BC\x00\x00\x10\x00\
@@ -99,14 +107,15 @@ pub(crate) fn orders(run: &mut Sheet) {
           JN\x04\x02\x00\
           JN\x01\x01\x01\
           JN\x01\x00\x00",
-    );
+    )
 }
 
-pub(crate) fn full_queues(run: &mut Sheet) {
+pub(crate) fn full_queues(rt: &impl Print, run: &mut Sheet) -> io::Result<()> {
     // R6.7, R6.8, R6.9, R5.3, refusal 28: nodes 22 and 23 ask to join, and 64 messages wait: a join
     // of node 24, a leave of node 0 and the delivery of the request of 22 are refused. Then node 1
     // leaves, the last that had joined; 64 wait again, and node 0, now alone, leaves too.
     crowd::scene_after(
+        rt,
         run,
         21,
         20,
@@ -123,11 +132,12 @@ pub(crate) fn full_queues(run: &mut Sheet) {
           LV\x00\
           RD\xff\xff\
           JN\x18\x00\x01",
-    );
+    )?;
     // R6.1, R6.3, R6.6, R6.7, R6.8: 64 messages wait, among them a notice for node 20, which is
     // out. Each record meets several refusals at once, as the join of node 20 between 1 and 0 meets
     // 24, 25 and 28, and the first is told.
     crowd::scene_after(
+        rt,
         run,
         21,
         20,
@@ -146,12 +156,13 @@ pub(crate) fn full_queues(run: &mut Sheet) {
           JN\x19\x00\x01\
           LV\x16\
           DL\x40",
-    );
+    )
 }
 
-pub(crate) fn deliveries_and_questions(run: &mut Sheet) {
+pub(crate) fn deliveries_and_questions(rt: &impl Print, run: &mut Sheet) -> io::Result<()> {
     // R6.9, refusal 29: while none waits, and behind the last one.
     scene(
+        rt,
         run,
         b"no 29: no message at that place\n\
           BC\x00\x00\x10\x00\
@@ -161,10 +172,11 @@ pub(crate) fn deliveries_and_questions(run: &mut Sheet) {
           JN\x01\x00\x00\
           DL\x01\
           DL\x00",
-    );
+    )?;
     // R4.1, R7.3, refusal 30: node 0 is out, and node 1 is joining; once that is granted it is
     // asked.
     scene(
+        rt,
         run,
         b"no 30: a question from a node not inserted\n\
           BC\x00\x00\x10\x00\
@@ -175,5 +187,5 @@ pub(crate) fn deliveries_and_questions(run: &mut Sheet) {
           OC\x01\x00\x00\x25\x00\
           DL\x00\
           OC\x01\x00\x00\x25\x00",
-    );
+    )
 }
