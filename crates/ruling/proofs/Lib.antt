@@ -1,2 +1,1 @@
 pub mod RulingLaws
-pub mod Values
