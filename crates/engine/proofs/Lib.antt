@@ -9,6 +9,3 @@ pub mod RecordLaws
 pub mod TaskLaws
 pub mod StepOfScript
 pub mod LoopLaws
-pub mod Values
-pub mod TaskValues
-pub mod Doors

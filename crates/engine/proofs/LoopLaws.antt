@@ -24,7 +24,6 @@ use Rattle.course.proofs.ScriptLaws.{Within, step-within, one-record, cursor-mov
 
 -- what holds at each turn
 pub record Turn (script : List ℕ) (x : State) : Type 0 where
-  pub arrays : Lengths x.kept.network
   pub sound : well_formed x.kept.network ≡ true
   pub within : Within script (far x)
   pub come : far x ≡ after script x.progress.ordinal
@@ -34,13 +33,12 @@ pub record Turn (script : List ℕ) (x : State) : Type 0 where
 abbrev pub begun : ℕ → Progress
 begun used = record { at = 0; ordinal = 0; posted = 0; used = used }
 
-pub first-turn : (script text : List ℕ) (k : Kept) (used : ℕ) → Lengths k.network → k.network ≡ empty → take used text ≡ heading → used ≤ 40
+pub first-turn : (script text : List ℕ) (k : Kept) (used : ℕ) → k.network ≡ empty → take used text ≡ heading → used ≤ 40
     → Turn script (record { kept = k; text = text; progress = begun used })
 unfolding lists_are_well_formed
-first-turn script text k used l e printed few =
+first-turn script text k used e printed few =
     let here : reached k.network (begun used) text ≡ start = rw (e, printed, live-held empty_lists) in
     record {
-      arrays = l;
       sound = rw e (held_well_formed empty_lists refl);
       within = rw here record { sound = tt; inside = omega arith; records = λ l. omega arith; few = omega arith; posts = omega arith };
       come = here;
@@ -63,9 +61,8 @@ module _ (script : List ℕ) (x : State) (t : Turn script x) (size : length scri
     next-ordinal : y.progress.ordinal ≡ x.progress.ordinal + 1
     next-ordinal = ap (λ (r : Reached). r.ordinal) stepped.0 ∙ one-record script (far x) t.within not-ended
 
-    pub next-turn : Lengths y.kept.network → Turn script y
-    next-turn l = record {
-      arrays = l;
+    pub next-turn : Turn script y
+    next-turn = record {
       sound = stepped.1;
       within = rw stepped.0 (step-within script (far x) t.within not-ended);
       come = stepped.0 ∙ ap (step_of script) t.come ∙ ap (after script) (sym (next-ordinal ∙ add-one x.progress.ordinal));
@@ -85,11 +82,11 @@ module _ (script : List ℕ) (x : State) (t : Turn script x) (size : length scri
       let there : length script ≤ (after script x.progress.ordinal).at = rw (ap (λ (r : Reached). r.at) (sym t.come)) past in
       ap (after script) (sym (sub-add_cancel fewer)) ∙ ended-after script x.progress.ordinal (length script - x.progress.ordinal) there ∙ sym t.come
 
-  pub whole-printout : length script ≤ x.progress.at → (text' : List ℕ) (r : ℕ) → take r text' ≡ take x.progress.used x.text ++ last_line x.kept.network.waiting x.progress.posted
+  pub whole-printout : Lengths x.kept.network → length script ≤ x.progress.at → (text' : List ℕ) (r : ℕ) → take r text' ≡ take x.progress.used x.text ++ last_line x.kept.network.waiting x.progress.posted
       → take r text' ≡ closed (after script (length script))
-  whole-printout past text' r printed =
+  whole-printout l past text' r printed =
       printed
-      ∙ ap (λ (waiting : ℕ). take x.progress.used x.text ++ last_line waiting x.progress.posted) (sym (messages-length x.kept.network t.arrays t.sound))
+      ∙ ap (λ (waiting : ℕ). take x.progress.used x.text ++ last_line waiting x.progress.posted) (sym (messages-length x.kept.network l t.sound))
       ∙ ap closed (sym (all-records past))
 
 -- ---- by the size of the script

@@ -1,7 +1,7 @@
 // Calls, drains and tasks on a network where it lies, past the test: each lends the network to
 // functions that decide and that write its arrays. They are walked by hand, and none of them knows
 // a rule or reads a part of what they hand on.
-ghost use Rattle.std.specs.Prelude.{◌≡◌, true, ◌<◌};
+ghost use Rattle.std.specs.Prelude.{◌≡◌, true, ◌<◌, length};
 ghost use Rattle.network.specs.Arrays.{well_formed};
 ghost use Rattle.engine.specs.Outcomes.{reported, counted, apply_of, drain_of};
 ghost use Rattle.engine.specs.Computed.{next_delivery, done_on, Allowed};
@@ -11,10 +11,21 @@ use protocol::Call;
 use report::Report;
 use task::Task;
 
+// What the type of a network says of its arrays. It is told where an element is read, so one is; that
+// leaves no trace once it is compiled.
+pub(crate) fn sizes(network: &mut Network)
+    ensures nodes { length network.old.nodes ≡ 32 }
+    ensures messages { length network.old.messages ≡ 64 }
+    ensures same { network.new ≡ network.old }
+{
+    let _node = network.nodes[0];
+}
+
 fn act(network: &mut Network, call: Call) -> Report
     requires { well_formed network.old ≡ true }
     ensures { reported network.new result ≡ counted (apply_of network.old call) }
 {
+    sizes(network);
     let decision = ruling::decide_in_place(network, call);
     let change = decision::change_in(decision);
     stores::commit(network, change);
@@ -27,6 +38,7 @@ fn deliver(network: &mut Network) -> Report
     requires { (well_formed network.old ≡ true) × (0 < network.old.waiting) }
     ensures { reported network.new result ≡ counted (next_delivery network.old) }
 {
+    sizes(network);
     let waiting = network.waiting;
     if waiting < QUEUE_LIMIT {
         return act(network, Call::Deliver(0));
@@ -39,6 +51,7 @@ fn drain(network: &mut Network, budget: u16) -> Report
     requires { well_formed network.old ≡ true }
     ensures { reported network.new result ≡ counted (drain_of network.old budget) }
 {
+    sizes(network);
     let mut tally = report::no_tally();
     let mut waiting = network.waiting;
     while report::goes_on(tally, budget, waiting) {
@@ -57,6 +70,7 @@ pub(crate) fn execute(network: &mut Network, task: Task) -> Report
         Task::Refuse(refusal) => report::refused(refusal),
         Task::Call(call) => act(network, call),
         Task::Owner { start, serial } => {
+            sizes(network);
             let answer = owners::owner_of_record(*network, start, serial);
             report::told(answer)
         }

@@ -45,6 +45,7 @@ fn step(kept: &mut Kept, script: &[u8], text: &mut [u8; 1048576], p: Progress) -
     ensures { (reached kept.new.network result text.new ≡ step_of script.now (reached kept.old.network p text.old))
         × (well_formed kept.new.network ≡ true) × (result.used ≤ p.used + 40) }
 {
+    in_place::sizes(&mut kept.network);
     let at = p.at;
     let asked = task::ask(script, at);
     let task = asked.task;
@@ -79,6 +80,7 @@ fn run(script: &[u8], text: &mut [u8; 1048576], start: usize) -> usize
     while p.at < script.len() {
         p = step(&mut kept, script, text, p);
     }
+    in_place::sizes(&mut kept.network);
     finish(text, kept, p)
 }
 

@@ -1,3 +1,0 @@
--- What the walks of `step` and `run` share.
-mod KeptRows
-mod Stepping
