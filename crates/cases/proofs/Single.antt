@@ -1,5 +1,5 @@
 -- Every row of our own holds: each computes. Assumes nothing.
-use mathlib.Core.Path.{◌≡◌, refl}
+use mathlib.Core.Path.{refl}
 use Rattle.interval.specs.Interval.{between}
 use Rattle.sequence.specs.Sequence.{first_seq, last_seq, next_seq, newer, has_next, capped_next}
 use Rattle.parts.specs.Shape.{message_fits}

@@ -29,7 +29,7 @@ pub struct Decision {
     pub report: Report,
 }
 
-// The two parts of a decision. A function that is walked by hand calls these, and reads no field.
+// The two parts of a decision, for who hands them on and reads no field.
 pub fn change_in(decision: Decision) -> Change
     ensures { result ≡ decision.change }
 {

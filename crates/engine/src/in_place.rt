@@ -1,6 +1,6 @@
 // Calls, drains and tasks on a network where it lies, past the test: each lends the network to
-// functions that decide and that write its arrays. They are walked by hand, and none of them knows
-// a rule or reads a part of what they hand on.
+// functions that decide and that write its arrays. None of them knows a rule or reads a part of what
+// they hand on.
 ghost use Rattle.std.specs.Prelude.{◌≡◌, true, ◌<◌, length};
 ghost use Rattle.network.specs.Arrays.{well_formed};
 ghost use Rattle.engine.specs.Outcomes.{reported, counted, apply_of, drain_of};
@@ -11,8 +11,8 @@ use protocol::Call;
 use report::Report;
 use task::Task;
 
-// What the type of a network says of its arrays. It is told where an element is read, so one is; that
-// leaves no trace once it is compiled.
+// What the type of a network says of its arrays. A proof is told it where an element is read, so one
+// is read here, which leaves no trace once it is compiled.
 pub(crate) fn sizes(network: &mut Network)
     ensures nodes { length network.old.nodes ≡ 32 }
     ensures messages { length network.old.messages ≡ 64 }

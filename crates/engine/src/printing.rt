@@ -1,7 +1,7 @@
 // A script from its bytes to its printout: the records one after the other from the empty network,
 // which is kept in a local and changed where it lies, a line for each. `step` has a reference to
-// what is kept and `run` makes it; these two are walked by hand. The printout grows in a buffer
-// that no script fills: a record has three bytes at least, and its line has forty at most.
+// what is kept, and `run` makes it. The printout grows in a buffer that no script fills: a record
+// has three bytes at least, and its line has forty at most.
 ghost use Rattle.std.specs.Prelude.{◌+◌, ◌≤◌, ◌<◌, length, take, true, ◌++◌, ◌≡◌};
 ghost use Rattle.io.specs.Counts.{IsPrefixLen};
 ghost use Rattle.network.specs.Arrays.{empty, well_formed};

@@ -4,4 +4,3 @@ pub mod Places
 pub mod Exchanges
 pub mod Clauses
 pub mod LiveLaws
-pub mod Walking

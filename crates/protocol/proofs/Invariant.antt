@@ -20,7 +20,7 @@ use Rattle.parts.specs.declared.Seq.TheVariants.{Is}
 use Rattle.parts.specs.declared.Message.{Message}
 use Rattle.node.specs.declared.Node.{Node}
 use Rattle.node.specs.Actions.{set_r, set_r_ack, set_l}
-use Rattle.protocol.specs.State.{is_ack_to, exchanges, is_inserted}
+use Rattle.protocol.specs.State.{is_ack_to, is_inserted}
 
 abbrev pub is_member : (ℕ → Node) → List Message → ℕ → Bool
 is_member N M u = is_inserted (N u).status (any (is_ack_to u) M)

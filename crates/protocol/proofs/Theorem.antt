@@ -25,12 +25,11 @@ use Rattle.parts.specs.Tests.{is_in_or_del, seq_of}
 use Rattle.node.specs.Actions.{set_r_ack}
 use Rattle.node.proofs.FitLaws.{number-named}
 use Rattle.protocol.specs.declared.Call.{Call}
-use Rattle.protocol.specs.State.{State, node_at, status_at, left_at, right_at, is_ack_to, is_notice_to, exchanges, notice_waits, is_inserted, inserted}
+use Rattle.protocol.specs.State.{State, node_at, status_at, left_at, right_at, is_ack_to, is_notice_to, notice_waits, is_inserted, inserted}
 use Rattle.protocol.specs.History.{History, start, advanced, run, history}
 use Rattle.protocol.specs.Claim.{Inserted, Sound, RingClaim}
 use Rattle.protocol.proofs.Nodes.{declared_unless_out}
 use Rattle.protocol.proofs.Facts.{WellFormed, tested}
-use Rattle.protocol.proofs.Changes.{joins}
 use Rattle.protocol.proofs.Cases.{change}
 use Rattle.protocol.proofs.Numbers.{numbers-tested, numbers-kept}
 use Rattle.protocol.proofs.Kept.{kept}

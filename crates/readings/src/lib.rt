@@ -1,6 +1,6 @@
 // The arrays of a network read where they lie, behind a reference: what the crates `access` and
 // `searches` read by value, by the same definitions, with no array copied. The network is as it was
-// after each. Each function is walked by hand, as in the crate `stores`.
+// after each.
 #![tactic(auto)]
 
 ghost use Rattle.std.specs.Prelude.{◌≡◌};

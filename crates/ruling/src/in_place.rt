@@ -1,5 +1,5 @@
 // A decision on a network where it lies: the network is lent to the functions that read it, and the
-// rules decide by value. Walked by hand.
+// rules decide by value.
 ghost use Rattle.std.specs.Prelude.{◌≡◌};
 ghost use Rattle.decision.specs.Decided.{decided};
 ghost use Rattle.ruling.specs.Rulings.{decision_on};

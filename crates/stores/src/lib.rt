@@ -1,7 +1,5 @@
 // The arrays of a network where they lie, behind a reference: what the crate `access` writes by
-// value, by the same definitions, with no array copied. Each function is walked by hand, since the
-// borrow checker does not cover a reference to a struct. What such walks share is proved here, for
-// the crates on top of this one too.
+// value, by the same definitions, with no array copied.
 #![tactic(auto)]
 
 ghost use Rattle.std.specs.Prelude.{◌≡◌, ◌+◌, ◌<◌, ◌≤◌, length};

@@ -1,17 +1,10 @@
 -- `members::ack_waits` meets its contract: after i turns the flag says whether a SetRAck is among
 -- the first i messages. The measure is what is left of them. Assumes nothing.
-use Prim.Native.Nat.{◌≤◌, ◌<◌, ◌-◌}
-use mathlib.Core.Path.{◌≡◌, refl, ap, ◌∙◌}
-use mathlib.Core.Bool.{◌&&◌, ◌||◌}
-use native.Mathlib.Omega.{arith}
-use native.Mathlib.Numerals.{add-one}
-use borrow.Author.Rules.{rules}
-use lib.ListN.{length, take, get_or}
-use lib.Dec.{eqb}
+use Prim.Native.Nat.{◌≤◌, ◌-◌}
+use mathlib.Core.Path.{◌≡◌}
+use lib.ListN.{take}
 use Rattle.predicates.specs.Tests.{any}
-use Rattle.predicates.proofs.TestLaws.{any-take}
 use Rattle.protocol.specs.State.{is_ack_to}
-use Rattle.network.proofs.Places.{zero_message}
 use Rattle.members.proofs.ack_waits.Given as goal
 
 abbrev pub invariant-loop-i : goal.invariant-loop-i

@@ -1,15 +1,10 @@
 -- `owners::walk` meets its contract: from where the walk stands, with the hops left to make, the
 -- owner is the same as from its start. The measure is the hops left. Assumes nothing.
 use Prim.Native.Nat.{◌≤◌, ◌-◌}
-use mathlib.Core.Path.{◌≡◌, refl, sym, ap, ◌∙◌}
-use native.Mathlib.Nat.{sub-zero}
-use native.Mathlib.Omega.{arith}
-use borrow.Author.Rules.{rules}
-use Rattle.sequence.specs.Sequence.{first_seq}
-use Rattle.protocol.specs.Questions.{walked}
+use mathlib.Core.Path.{◌≡◌}
 use Rattle.access.specs.Sights.{node_in}
 use Rattle.owners.specs.Owners.{walk_from}
-use Rattle.owners.proofs.TurnLaws.{standing, link-missing, owner_found, goes_on, hops-spent}
+use Rattle.owners.proofs.TurnLaws.{standing}
 use Rattle.owners.proofs.walk.Given as goal
 
 abbrev pub invariant-loop-hops : goal.invariant-loop-hops

@@ -1,14 +1,9 @@
 -- `searches::all_out` meets its contract: after i turns the flag is the test of the first i nodes.
 -- The measure is what is left of them. Assumes nothing.
 use Prim.Native.Nat.{◌≤◌, ◌-◌}
-use mathlib.Core.Path.{◌≡◌, refl, ap, ◌∙◌}
-use mathlib.Core.Bool.{◌&&◌}
-use native.Mathlib.Omega.{arith}
-use native.Mathlib.Numerals.{add-one}
-use borrow.Author.Rules.{rules}
+use mathlib.Core.Path.{◌≡◌}
 use lib.ListN.{get_or}
 use Rattle.predicates.specs.Tests.{every_below}
-use Rattle.sequence.specs.Sequence.{first_seq}
 use Rattle.parts.specs.Tests.{is_out}
 use Rattle.network.specs.Arrays.{vacant_node}
 use Rattle.searches.proofs.all_out.Given as goal

@@ -1,15 +1,11 @@
 -- `searches::key_is_new` meets its contract: after i turns the flag is the test of the first i
 -- nodes. The measure is what is left of them. Assumes nothing.
 use Prim.Native.Nat.{◌≤◌, ◌-◌}
-use mathlib.Core.Path.{◌≡◌, refl, ap, ◌∙◌}
-use mathlib.Core.Bool.{not, ◌&&◌}
-use native.Mathlib.Omega.{arith}
-use native.Mathlib.Numerals.{add-one}
-use borrow.Author.Rules.{rules}
+use mathlib.Core.Path.{◌≡◌}
+use mathlib.Core.Bool.{not}
 use lib.ListN.{get_or}
 use lib.Dec.{eqb}
 use Rattle.predicates.specs.Tests.{every_below}
-use Rattle.sequence.specs.Sequence.{first_seq}
 use Rattle.network.specs.Arrays.{vacant_node}
 use Rattle.searches.proofs.key_is_new.Given as goal
 

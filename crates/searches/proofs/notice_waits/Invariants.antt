@@ -1,16 +1,10 @@
 -- `searches::notice_waits` meets its contract: after i turns the flag says whether a notice is
 -- among the first i messages. The measure is what is left of them. Assumes nothing.
-use Prim.Native.Nat.{◌≤◌, ◌<◌, ◌-◌}
-use mathlib.Core.Path.{◌≡◌, refl, ap, ◌∙◌}
-use mathlib.Core.Bool.{◌||◌}
-use native.Mathlib.Omega.{arith}
-use native.Mathlib.Numerals.{add-one}
-use borrow.Author.Rules.{rules}
-use lib.ListN.{length, take}
+use Prim.Native.Nat.{◌≤◌, ◌-◌}
+use mathlib.Core.Path.{◌≡◌}
+use lib.ListN.{take}
 use Rattle.predicates.specs.Tests.{any}
-use Rattle.predicates.proofs.TestLaws.{any-take}
 use Rattle.protocol.specs.State.{is_notice_to}
-use Rattle.network.proofs.Places.{zero_message}
 use Rattle.searches.proofs.notice_waits.Given as goal
 
 abbrev pub invariant-loop-i : goal.invariant-loop-i

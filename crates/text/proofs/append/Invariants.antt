@@ -1,12 +1,8 @@
 -- `text::append` meets its contract. The loop's invariant: the first i bytes of the piece are in
 -- place, in a buffer with room for all. Assumes nothing.
 use Prim.Native.Nat.{◌-◌}
-use mathlib.Core.Path.{sym}
-use native.Mathlib.Omega.{arith}
 use lib.ListN.{length}
-use Rattle.text.proofs.Laws.{place_after_lem, no_place, not-pasted}
-use Rattle.text.proofs.Copying as copying
-use Rattle.text.proofs.Copying.{Copied, none_copied, one-more-copied, all-copied}
+use Rattle.text.proofs.Copying.{Copied}
 use Rattle.text.proofs.append.Given as goal
 
 abbrev pub invariant-loop-i : goal.invariant-loop-i

@@ -1,7 +1,6 @@
 -- `text::append_decimal` meets its contract. The loop's invariant: the digits are in place but for
 -- the first and i more, which hold the rest. Assumes nothing.
-use native.Mathlib.Omega.{arith}
-use Rattle.text.proofs.Spelling.{Spelling, start_to_spell, go_on_spelling, end_spelling, rest_below_ten, place_to_spell, no-room-to-spell, all-spelled}
+use Rattle.text.proofs.Spelling.{Spelling}
 use Rattle.text.proofs.append_decimal.Given as goal
 
 abbrev pub invariant-loop-i : goal.invariant-loop-i

@@ -1,6 +1,5 @@
 -- `engine::calls::apply` meets its contract: 6 where the network is not well formed, and else the
 -- call past the test. Assumes nothing.
-use borrow.Author.Rules.{rules}
 use mathlib.Core.Path.{sym, ap, ◌∙◌}
 use Rattle.engine.specs.Outcomes.{counted}
 use Rattle.engine.proofs.RunLaws.{malformed}

@@ -1,14 +1,12 @@
 -- `engine::in_place::deliver` meets its contract: where the queue is not full the first place is the
 -- lowest one (`DrainLaws`), and else `lowest` is handed a copy of the network. Assumes nothing.
-use Prim.Native.Nat.{ℕ, ◌<◌}
+use Prim.Native.Nat.{ℕ}
 use mathlib.Core.Path.{◌≡◌, sym, ap, ◌∙◌}
-use mathlib.Core.Bool.{true}
 use mathlib.Core.Option.{some}
-use native.Mathlib.Omega.{arith}
 use Rattle.protocol.specs.declared.Call.TheVariants.{Deliver}
 use Rattle.protocol.specs.Drain.{lowest}
 use Rattle.network.specs.declared.Network.{Network}
-use Rattle.network.specs.Arrays.{live, well_formed}
+use Rattle.network.specs.Arrays.{live}
 use Rattle.network.proofs.Lengths.{Lengths}
 use Rattle.report.specs.declared.Report.{Report}
 use Rattle.ruling.specs.Places.{lowest_place}

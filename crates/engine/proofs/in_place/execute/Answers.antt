@@ -4,7 +4,7 @@ use mathlib.Core.Path.{sym, ap, ◌∙◌}
 use Rattle.network.specs.declared.Network.{Network}
 use Rattle.owners.specs.Owners.{owner_asked}
 use Rattle.engine.specs.Outcomes.{reported, counted}
-use Rattle.engine.specs.Computed.{done_on, Allowed}
+use Rattle.engine.specs.Computed.{done_on}
 use Rattle.engine.proofs.TaskLaws.{owner-told}
 use Rattle.engine.proofs.in_place.execute.Goals as goal
 

@@ -1,6 +1,5 @@
 -- `engine::questions::owner` meets its contract: 6 where the network is not well formed, and else
 -- the question. Assumes nothing.
-use borrow.Author.Rules.{rules}
 use mathlib.Core.Path.{sym, ◌∙◌}
 use Rattle.network.proofs.Lengths.{lengths}
 use Rattle.owners.proofs.QuestionLaws.{owner-live}

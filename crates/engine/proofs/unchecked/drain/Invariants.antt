@@ -1,17 +1,8 @@
 -- `engine::unchecked::drain` meets its contract: after each turn the drain is underway
 -- (`DrainLaws`), and where nothing waits, or the budget is spent, it is finished. The measure is
 -- what is left of the budget. Assumes nothing.
-use borrow.Author.Rules.{rules}
 use Prim.Native.Nat.{◌-◌}
-use mathlib.Core.Path.{sym, ◌∙◌}
-use native.Mathlib.Omega.{arith}
-use lib.Dec.{ltb}
-use borrow.Author.Tests.{ltb-true}
-use Rattle.predicates.proofs.Laws.{both}
-use Rattle.network.proofs.Lengths.{lengths}
-use Rattle.report.proofs.Exact.{exactly}
-use Rattle.engine.specs.Outcomes.{called}
-use Rattle.engine.proofs.DrainLaws.{Underway, begins, chosen, tally-fits, goes_on, stops}
+use Rattle.engine.proofs.DrainLaws.{Underway}
 use Rattle.engine.proofs.unchecked.drain.Given as goal
 
 abbrev pub invariant-loop-place : goal.invariant-loop-place

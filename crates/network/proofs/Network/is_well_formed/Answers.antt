@@ -1,6 +1,6 @@
 -- `network::Network::is_well_formed` meets its contract: past the limits the network is not well
 -- formed, and within them each test is a clause of the definition. Assumes nothing.
-use mathlib.Core.Path.{◌≡◌, sym, ◌∙◌}
+use mathlib.Core.Path.{sym, ◌∙◌}
 use mathlib.Core.Bool.{◌&&◌}
 use Rattle.predicates.proofs.Laws.{both}
 use Rattle.network.proofs.Lengths.{lengths}

@@ -1,14 +1,10 @@
 -- `network::shape::allowances` meets its contract: after i turns the first i allowances are those
 -- of the first i nodes. The measure is what is left of the 32. Assumes nothing.
 use Prim.Native.Nat.{ℕ, ◌≤◌, ◌<◌, ◌-◌}
-use mathlib.Core.Path.{◌≡◌, refl}
-use native.Mathlib.Omega.{arith}
-use borrow.Author.Rules.{rules}
-use lib.ListN.{length, get_or, length-set}
-use Rattle.sequence.specs.Sequence.{first_seq}
+use mathlib.Core.Path.{◌≡◌}
+use lib.ListN.{length, get_or}
 use Rattle.protocol.specs.State.{exchanges}
 use Rattle.network.specs.Arrays.{vacant_node}
-use Rattle.network.proofs.Places.{one-more-stored}
 use Rattle.network.proofs.shape.allowances.Given as goal
 
 abbrev pub invariant-loop-i : goal.invariant-loop-i

@@ -1,16 +1,11 @@
 -- `network::shape::message_places_fit` meets its contract: after i turns the flag is the test of
 -- the first i places. The measure is what is left of the 64. Assumes nothing.
 use Prim.Native.Nat.{◌≤◌, ◌-◌}
-use mathlib.Core.Path.{◌≡◌, refl}
-use native.Mathlib.Omega.{arith}
-use native.Mathlib.Numerals.{add-one}
-use borrow.Author.Rules.{rules}
-use lib.ListN.{length}
+use mathlib.Core.Path.{◌≡◌}
 use Rattle.predicates.specs.Tests.{every_below}
 use Rattle.parts.specs.Shape.{message_fits}
 use Rattle.network.specs.Arrays.{vacant_message, is_vacant_message}
 use Rattle.network.specs.Walks.{place_fits}
-use Rattle.network.proofs.Places.{zero_message, same-element}
 use Rattle.network.proofs.shape.message_places_fit.Given as goal
 
 abbrev pub invariant-loop-i : goal.invariant-loop-i

@@ -1,7 +1,6 @@
 -- `node::Node::leave_unchecked` meets its contract: each branch is one of the definition, and past
 -- the tests the capped number is the next one. Assumes nothing.
 use mathlib.Core.Path.{◌∙◌, sym, ap}
-use borrow.Author.Tests.{not-false}
 use Rattle.sequence.specs.Sequence.{has_next, capped_next}
 use Rattle.parts.specs.declared.Status.TheVariants.{Del}
 use Rattle.node.specs.declared.Outcome.TheVariants.{Waiting}
