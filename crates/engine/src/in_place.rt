@@ -12,7 +12,7 @@ use report::Report;
 use task::Task;
 
 // What the type of a network says of its arrays. A proof is told it where an element is read, so one
-// is read here, which leaves no trace once it is compiled.
+// is read here. It is not used, so that an optimizing compiler leaves nothing of it.
 pub(crate) fn sizes(network: &mut Network)
     ensures nodes { length network.old.nodes ≡ 32 }
     ensures messages { length network.old.messages ≡ 64 }

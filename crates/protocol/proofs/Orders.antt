@@ -62,7 +62,7 @@ declares-kept {N} {N'} {M} {i = i} inv out known at = record {
     same u m = at.others u (λ e. member_not_out N M u m (ap (λ v. (N v).status) e ∙ out))
 
 -- ---- join and leave, by a request
--- the set_r-s of a queue with one more
+-- the SetRs of a queue with one more
 one_more : {N : ℕ → Node} {M : List Message} {i p new e n : ℕ} → ((v q b d k : ℕ) → set_r v q b d k ∈ M → Request N v q b d k) → Request N i p new e n
     → (v q b d k : ℕ) → set_r v q b d k ∈ (M ++ set_r i p new e n ∷ []) → Request N v q b d k
 one_more {N} {M} {i} {p} {new} {e} {n} old own v q b d k j = ⊎_elim (λ l. old v q b d k l) (λ f. posted f) (in-posted M j)

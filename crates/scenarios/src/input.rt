@@ -122,9 +122,9 @@ fn long_buffer() -> [u8; 65537]
 
 // R9.1, refusal 7: both scripts begin with a declaration and go on with zeros, which are no mark.
 pub(crate) fn sizes(rt: &impl Print, run: &mut Sheet) -> io::Result<()> {
-    let mut too_long_lem = long_buffer();
-    text::append(&mut too_long_lem, 0, b"BC\x00\x00\x10\x00");
-    show(rt, run, b"no 7: 65,537 bytes\n", &too_long_lem)?;
+    let mut too_long = long_buffer();
+    text::append(&mut too_long, 0, b"BC\x00\x00\x10\x00");
+    show(rt, run, b"no 7: 65,537 bytes\n", &too_long)?;
     let mut longest = [0u8; 65536];
     text::append(&mut longest, 0, b"BC\x00\x00\x10\x00");
     show(rt, run, b"65,536 bytes are read\n", &longest)
