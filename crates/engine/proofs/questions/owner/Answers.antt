@@ -9,9 +9,8 @@ use Rattle.engine.proofs.questions.owner.Goals as goal
 pub returns-then-is_well_formed : goal.returns-then-is_well_formed
 unfolding owner_of
 returns-then-is_well_formed c =
-    let start = c in
     let h = sym c.is_well_formed.ensures ∙ c.if-is_well_formed.true in
-    rw h (c.owner.ensures ∙ owner-live start.args.network (lengths _ _ start.well_formed.0) h start.args.start start.args.serial)
+    rw h (c.owner.ensures ∙ owner-live c.args.network (lengths _ _ c.well_formed.0) h c.args.start c.args.serial)
 
 pub returns-else-is_well_formed : goal.returns-else-is_well_formed
 unfolding owner_of

@@ -10,17 +10,15 @@ returns-then-not-is_well_formed c = simp (← c.is_well_formed.ensures, c.if-not
 pub returns-then-not-is_out : goal.returns-then-not-is_out
 unfolding create_of
 returns-then-not-is_out c =
-    let out = c in
-    simp (← out.is_well_formed.ensures, out.if-not-is_well_formed.false, ← out.is_out.ensures, c.if-not-is_out.true, c.refuse-then-not-is_out.ensures)
+    simp (← c.is_well_formed.ensures, c.if-not-is_well_formed.false, ← c.is_out.ensures, c.if-not-is_out.true, c.refuse-then-not-is_out.ensures)
 
 pub returns : goal.returns
 unfolding create_of
 returns c =
-    let out = c in
     simp (
-      ← out.is_well_formed.ensures,
-      out.if-not-is_well_formed.false,
-      ← out.is_out.ensures,
+      ← c.is_well_formed.ensures,
+      c.if-not-is_well_formed.false,
+      ← c.is_out.ensures,
       c.if-not-is_out.false,
       c.first-first.ensures,
       c.silent.ensures,

@@ -10,11 +10,9 @@ returns-then-not-is_out c = simp (← c.is_out.ensures, c.if-not-is_out.true, c.
 pub returns-then-not-is_between : goal.returns-then-not-is_between
 unfolding join_unchecked
 returns-then-not-is_between c =
-    let lies = c in
-    simp (← lies.is_out.ensures, lies.if-not-is_out.false, ← lies.is_between.ensures, c.if-not-is_between.true, c.refuse-then-not-is_between.ensures)
+    simp (← c.is_out.ensures, c.if-not-is_out.false, ← c.is_between.ensures, c.if-not-is_between.true, c.refuse-then-not-is_between.ensures)
 
 pub returns : goal.returns
 unfolding join_unchecked
 returns c =
-    let lies = c in
-    simp (← lies.is_out.ensures, lies.if-not-is_out.false, ← lies.is_between.ensures, c.if-not-is_between.false, c.posts_one.ensures)
+    simp (← c.is_out.ensures, c.if-not-is_out.false, ← c.is_between.ensures, c.if-not-is_between.false, c.posts_one.ensures)

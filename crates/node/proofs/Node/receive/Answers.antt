@@ -5,11 +5,9 @@ use Rattle.node.proofs.Node.receive.Goals as goal
 pub returns-then-not-is_well_formed-is_deliverable : goal.returns-then-not-is_well_formed-is_deliverable
 unfolding receive_of
 returns-then-not-is_well_formed-is_deliverable c =
-    let tests = c in
-    simp (← tests.is_well_formed.ensures, ← tests.is_deliverable.ensures, c.if-not-is_well_formed-is_deliverable.true, c.refuse.ensures)
+    simp (← c.is_well_formed.ensures, ← c.is_deliverable.ensures, c.if-not-is_well_formed-is_deliverable.true, c.refuse.ensures)
 
 pub returns : goal.returns
 unfolding receive_of
 returns c =
-    let tests = c in
-    simp (← tests.is_well_formed.ensures, ← tests.is_deliverable.ensures, c.if-not-is_well_formed-is_deliverable.false, c.act.ensures)
+    simp (← c.is_well_formed.ensures, ← c.is_deliverable.ensures, c.if-not-is_well_formed-is_deliverable.false, c.act.ensures)
