@@ -1,3 +1,2 @@
 pub mod Shift
 pub mod Stores
-pub mod Room

@@ -5,14 +5,13 @@ use mathlib.Core.Path.{◌≡◌, sym, ap, ◌∙◌}
 use mathlib.Core.List.{List, [], ◌∷◌, ◌++◌, append_assoc, append-nil}
 use Prim.Native.Nat.{ℕ, suc, ◌+◌, ◌-◌, ◌≤◌, ◌<◌}
 use native.Mathlib.Omega.{arith}
-use lib.ListN.{length, set, take, drop, replicate, length-append, length-set}
+use lib.ListN.{length, set, replicate, length-append, length-set}
 use lib.Seq.{set-append_left, set-append_seam, take-append_seam, drop-append_seam}
 use Rattle.node.specs.declared.Node.{Node}
 use Rattle.parts.specs.declared.Message.{Message}
 use Rattle.node.specs.Shape.{capacity}
 use Rattle.protocol.specs.State.{State, queue_limit}
 use Rattle.protocol.specs.Calls.{without}
-use Rattle.network.specs.declared.Network.{Network}
 use Rattle.network.specs.Arrays.{vacant_node, vacant_message, filled, held}
 use Rattle.access.specs.Changes.{placed, added, closed, queued, all_posted}
 use Rattle.access.proofs.Shift.{length_without}
@@ -79,19 +78,6 @@ all-posted-held nodes ms posts k = λ i. record {
   messages = queued-filled ms posts k i;
   waiting = sym (length-append ms posts) i;
 }
-
--- ---- a delivery as the code puts it together: the messages without the one at a place, the posts
--- behind them, the node in its place
-pub delivered-arrays : (n : Network) (place u : ℕ) (node : Node) (posts : List Message) {left queue : List Message} {more : ℕ} → 0 < n.waiting
-    → left ≡ without place (take (n.waiting - 1 + 1) n.messages) ++ vacant_message ∷ drop (n.waiting - 1 + 1) n.messages
-    → queue ≡ queued left (n.waiting - 1) posts
-    → more ≡ length posts
-    → record { nodes = set n.nodes u node; count = n.count; messages = queue; waiting = n.waiting - 1 + more } ≡ all_posted (placed (closed n place) u node) posts
-delivered-arrays n place u node posts k gone behind count =
-    let all : n.waiting - 1 + 1 ≡ n.waiting = omega arith in
-    let closed-up = gone ∙ ap (λ w. without place (take w n.messages) ++ vacant_message ∷ drop w n.messages) all in
-    let messages = behind ∙ ap (λ l. queued l (n.waiting - 1) posts) closed-up in
-    λ i. record { nodes = set n.nodes u node; count = n.count; messages = messages i; waiting = n.waiting - 1 + count i }
 
 -- ---- a step: the node in its place, and its posts at the end
 pub stepped-held : (nodes : List Node) (rest : List Message) (u : ℕ) (node : Node) (posts : List Message) → u < length nodes → length rest + length posts ≤ queue_limit

@@ -11,7 +11,7 @@ use Rattle.protocol.specs.Calls.{without}
 use Rattle.network.specs.declared.Network.{Network}
 use Rattle.network.specs.Arrays.{vacant_message}
 use Rattle.access.specs.declared.Change.{Change}
-use Rattle.access.specs.declared.Change.TheVariants.{Nothing, Add, Step, Deliver}
+use Rattle.access.specs.declared.Change.TheVariants.{Add, Step, Deliver}
 
 -- ---- what is written
 -- node u as it is now
@@ -47,7 +47,6 @@ pub data Written : Type 0 where
   delivers : ℕ → ℕ → Node → List Message → Written
 
 abbrev pub written : Change → Written
-written Nothing = nothing
 written (Add node) = adds node
 written (Step number node posts) = steps number node (listed posts)
 written (Deliver place number node posts) = delivers place number node (listed posts)

@@ -1,22 +1,21 @@
-// How the arrays of a network are read and written, by value. No rule stands here: what a call's
-// rules look at is read out (`Sight`, `Arrival`), and what they decide is carried out (`Change`).
-// Each public function takes any network and any numbers. The crates `stores` and `readings` do the
-// same where a network lies, by the same definitions.
+// How the arrays of a network are read and written. No rule stands here: what a call's rules look at
+// is read out (`Sight`, `Arrival`), and what they decide is carried out (`Change`). Each public
+// function takes any network and any numbers.
 #![tactic(auto)]
 
 use node::Node;
 use parts::{Message, Posts};
 
-mod by_value;
+mod changes;
+mod sights;
 
-pub use by_value::{arrival as met, committed, fitting, sight as seen};
+pub use changes::{commit, has_room};
+pub use sights::{look, meet};
 
-// What a call leaves to be done in the arrays: nothing where it is refused; a node more; a node's
-// step, with the messages that it posts; or the same with the message at a place taken from the
-// queue.
+// What a call leaves to be done in the arrays: a node more; a node's step, with the messages that it
+// posts; or the same with the message at a place taken from the queue.
 #[derive(Clone, Copy)]
 pub enum Change {
-    Nothing,
     Add(Node),
     Step {
         number: u8,

@@ -1,13 +1,11 @@
 -- R1.4, R5.1, R5.2, R5.4, R5.5, R5.9, R5.10, R5.11, R5.13, R5.14, R6.4, R6.12: rows of our own
 -- beside the marked ones, of what a single node's step does and refuses where no script can show it,
 -- since a network is well formed and hands in its own nodes and keys. `proofs/Single.antt` proves the whole table. Definitions only.
-use Rattle.std.specs.Prelude.{List, [], ◌∷◌, ℕ}
+use Rattle.std.specs.Prelude.{List, [], ◌∷◌, ℕ, Some, None}
 use Rattle.refusal.specs.Code.{plain}
 use Rattle.sequence.specs.Sequence.{Number}
 use Rattle.parts.specs.declared.Status.{Status}
 use Rattle.parts.specs.declared.Status.TheVariants.{Out, Ins, In, Del}
-use Rattle.parts.specs.declared.Link.TheVariants.{Unlinked, To}
-use Rattle.parts.specs.declared.Seq.TheVariants.{Unset, Is}
 use Rattle.node.specs.declared.Node.{Node}
 use Rattle.node.specs.declared.Peer.{Peer}
 use Rattle.node.specs.declared.Outcome.TheVariants.{Created, Waiting, Joined, Gone, JoinDenied, LeaveDenied, Dropped, Denied}
@@ -17,11 +15,11 @@ use Rattle.cases.specs.Table.{Case, ◌is◌}
 
 -- node 0 with the key 1,000, links to 1 and 2, left number 5 and right number 7, in a status
 abbrev pub linked : Status → Node
-linked status = record { status = status; key = 1_000; left = To 1; right = To 2; lseq = 5; rseq = Is 7 }
+linked status = record { status = status; key = 1_000; left = Some 1; right = Some 2; lseq = 5; rseq = Some 7 }
 
 -- the same with another right number
 abbrev pub numbered : Status → Number → Node
-numbered status rseq = record { status = status; key = 1_000; left = To 1; right = To 2; lseq = 5; rseq = Is rseq }
+numbered status rseq = record { status = status; key = 1_000; left = Some 1; right = Some 2; lseq = 5; rseq = Some rseq }
 
 abbrev pub peer : ℕ → ℕ → Peer
 peer number key = record { number = number; key = key }
@@ -29,25 +27,25 @@ peer number key = record { number = number; key = key }
 -- a node of another network, which has 33 nodes or more; one that is ins and lacks a link; and one
 -- that is in and lacks its right number
 abbrev pub linked_far : Node
-linked_far = record { status = In; key = 1_000; left = To 1; right = To 32; lseq = 5; rseq = Is 7 }
+linked_far = record { status = In; key = 1_000; left = Some 1; right = Some 32; lseq = 5; rseq = Some 7 }
 
 abbrev pub half_linked : Node
-half_linked = record { status = Ins; key = 1_000; left = To 1; right = Unlinked; lseq = 5; rseq = Is 7 }
+half_linked = record { status = Ins; key = 1_000; left = Some 1; right = None; lseq = 5; rseq = Some 7 }
 
 abbrev pub unnumbered : Node
-unnumbered = record { status = In; key = 1_000; left = To 1; right = To 2; lseq = 5; rseq = Unset }
+unnumbered = record { status = In; key = 1_000; left = Some 1; right = Some 2; lseq = 5; rseq = None }
 
 abbrev pub single : List Case
 single =
     -- R1.4: out, with its key, without links and without a right number
-    (declared_of 1_000 is record { status = Out; key = 1_000; left = Unlinked; right = Unlinked; lseq = 0; rseq = Unset })
+    (declared_of 1_000 is record { status = Out; key = 1_000; left = None; right = None; lseq = 0; rseq = None })
     -- R5.1: both links name the node, both numbers are the first; refusal 23 unless it is out
-    ∷ (create_of 0 (linked Out) is quiet (record { status = In; key = 1_000; left = To 0; right = To 0; lseq = 0; rseq = Is 0 }) Created)
+    ∷ (create_of 0 (linked Out) is quiet (record { status = In; key = 1_000; left = Some 0; right = Some 0; lseq = 0; rseq = Some 0 }) Created)
     ∷ (create_of 0 (linked Ins) is refused (linked Ins) (plain 23))
     -- R5.2, R1.5: a second join sends the left number, and keeps the right one; refusals 23 and 24,
     -- and 23 where both hold
     ∷ (join_of 0 (linked Out) (peer 3 500) (peer 4 2_000)
-    is posting (record { status = Ins; key = 1_000; left = To 3; right = To 4; lseq = 5; rseq = Is 7 }) (set_r 0 3 0 4 5) Waiting)
+    is posting (record { status = Ins; key = 1_000; left = Some 3; right = Some 4; lseq = 5; rseq = Some 7 }) (set_r 0 3 0 4 5) Waiting)
     ∷ (join_of 0 (linked In) (peer 3 500) (peer 4 2_000) is refused (linked In) (plain 23))
     ∷ (join_of 0 (linked Out) (peer 3 1_500) (peer 4 2_000) is refused (linked Out) (plain 24))
     ∷ (join_of 0 (linked Del) (peer 3 1_500) (peer 4 2_000) is refused (linked Del) (plain 23))

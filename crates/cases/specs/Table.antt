@@ -1,14 +1,12 @@
 -- R11.4: the cases that paper 01 marks †, in its order, one row each: what the definition gives,
 -- and what it must be. `proofs/Claim.antt` proves the whole table. Definitions only.
-use Rattle.std.specs.Prelude.{◌≡◌, true, false, List, [], ◌∷◌, ℕ}
+use Rattle.std.specs.Prelude.{◌≡◌, true, false, List, [], ◌∷◌, ℕ, Some}
 use Rattle.refusal.specs.Code.{plain}
 use Rattle.refusal.specs.Rules.{done, no}
 use Rattle.serial.specs.Serial.{coded, packed_of, binary_of}
 use Rattle.interval.specs.Interval.{between}
 use Rattle.sequence.specs.Sequence.{Number, next_seq}
 use Rattle.parts.specs.declared.Status.TheVariants.{Out, In}
-use Rattle.parts.specs.declared.Link.TheVariants.{To}
-use Rattle.parts.specs.declared.Seq.TheVariants.{Is}
 use Rattle.node.specs.declared.Node.{Node}
 use Rattle.node.specs.declared.Outcome.TheVariants.{LeftAlone, LeftSet, LeftOld, Dropped, Denied}
 use Rattle.node.specs.Shape.{declared_of}
@@ -30,11 +28,11 @@ AllHold (c ∷ cs) = Holds c × AllHold cs
 
 -- node 0 of the cases below: in, with the links, the left number and the right number given
 abbrev pub node0 : ℕ → ℕ → Number → Number → Node
-node0 left right lseq rseq = record { status = In; key = 1_000; left = To left; right = To right; lseq = lseq; rseq = Is rseq }
+node0 left right lseq rseq = record { status = In; key = 1_000; left = Some left; right = Some right; lseq = lseq; rseq = Some rseq }
 
 -- the same, gone out
 abbrev pub out0 : ℕ → ℕ → Number → Number → Node
-out0 left right lseq rseq = record { status = Out; key = 1_000; left = To left; right = To right; lseq = lseq; rseq = Is rseq }
+out0 left right lseq rseq = record { status = Out; key = 1_000; left = Some left; right = Some right; lseq = lseq; rseq = Some rseq }
 
 abbrev pub table : List Case
 table =

@@ -1,129 +1,96 @@
-// A script by chance, which the model plays as it grows, and a ledger of the answers.
-use crate::random::*;
-use crate::steering::*;
-use model::network::*;
+// A script by chance, which the model plays as it grows.
+use crate::chance::{Purpose, Throw, Throws};
+use crate::ledger::{Came, Label, Ledger};
+use crate::steering::Draw;
+use arrayvec::ArrayVec;
+use model::answer::Refusal;
 use model::printing::LONGEST;
-use model::reading::*;
-use model::record::*;
-use model::rules::*;
-use model::sheet::*;
-use model::text::*;
-use std::num::{wrapping_add_usize as plus, wrapping_sub_usize as minus};
+use model::reading::Player;
+use std::iter;
 
-// The ledger: so many rows on from here as an order's number, how often each answer came, where
-// HOPPED stands for an owner found by a hop or more; the row of how often so many messages waited;
-// and the row of the run, with its places.
-pub(crate) const TALLY: usize = 16;
-
-const HOPPED: usize = 47;
-
-pub(crate) const WAITED: usize = 26;
-
-pub(crate) const RUN: usize = 27;
-
-pub(crate) const SCRIPTS: usize = 0;
-
-pub(crate) const RECORDS: usize = 1;
-
-pub(crate) const TEXT: usize = 2;
-
-pub(crate) const OVER: usize = 3;
-
-pub(crate) const DIFFERENT: usize = 4;
-
-pub(crate) const FIRST_SCRIPT: usize = 5;
-
-pub(crate) const FIRST_BYTE: usize = 6;
+pub(crate) type Script = ArrayVec<u8, 100_000>;
 
 // More than a script has, since each has three bytes or more.
-const MOST_RECORDS: usize = 30000;
+const MOST_RECORDS: usize = 30_000;
 
-// How long a script is at most: the first few are at the limits, and the others short, or longer,
-// or a few of them long.
-fn most_bytes(script: usize, mood: usize) -> usize {
-    let some = below(mood, 47, 30000);
-    match script {
+// How long a script is at most: the first few are at the limits, and the others short, or longer, or
+// a few of them long.
+fn most_bytes(ordinal: u32, mood: Throw) -> usize {
+    let some = mood.below(Purpose::Length, 30_000) as usize;
+    match ordinal {
         1 => 0,
         2 | 3 => LONGEST,
         4 => LONGEST + 1,
-        5 => 100000,
-        _ => if mood % 16 == 0 { some } else { some % 6000 },
+        5 => 100_000,
+        _ => if mood.is_multiple_of(16) {
+            some
+        } else {
+            some % 6_000
+        },
     }
 }
 
-// The answer under which a record is counted.
-fn counted(network: &Sheet, answer: usize) -> usize {
-    if answer != OWNER {
-        return answer;
-    }
-    if is_owner(network, byte(network, 2), value(network, order(network))) {
-        OWNER
-    } else {
-        HOPPED
-    }
-}
-
-// Counts an answer, where there is one.
-fn enter(sheet: &mut Sheet, answer: usize) {
-    if answer == NOTHING {
-        return;
-    }
-    add(sheet, WAITED, count(sheet, UNDERWAY), 1);
-    add(sheet, RUN, RECORDS, 1);
-    add(sheet, plus(TALLY, order(sheet)), counted(sheet, answer), 1);
-}
-
-// Plays a part of a script.
-fn read(sheet: &mut Sheet, script: &Page, from: usize, upto: usize) {
-    for place in from..upto {
-        let answer = feed(sheet, byte_at(script, place));
-        enter(sheet, answer);
-    }
-}
-
-fn is_over(network: &Sheet, upto: usize, most: usize) -> bool {
-    if upto > most { true } else { is_stuck(network) }
-}
-
-// Where a script ends that has no room for another record, or no use for one: in half of the
-// scripts within that record.
-fn cut(length: usize, most: usize, mood: usize) -> usize {
-    let is_close = minus(most, length) < 7;
-    if is_close && mood % 2 == 0 {
+// Where a script ends that has no room for another record, or no use for one: in half of the scripts
+// within that record.
+fn cut(length: usize, most: usize, mood: Throw) -> usize {
+    let is_close = most.saturating_sub(length) < 7;
+    if is_close && mood.is_multiple_of(2) {
         most
     } else {
         length
     }
 }
 
-// A script of at most so many bytes, on the page; the answer is its length.
-fn grow(sheet: &mut Sheet, script: &mut Page, most: usize, mood: usize) -> usize {
-    let mut length = 0;
-    let mut throw = mood;
-    for _ in 0..MOST_RECORDS {
-        throw = next(throw);
-        let upto = write(script, length, choose(sheet, mood, throw));
-        if is_over(sheet, upto, most) {
-            let all = cut(length, most, mood);
-            read(sheet, script, length, all);
-            return all;
+// Plays a part of a script.
+fn play(player: &mut Player, part: &[u8], ledger: &mut Ledger) {
+    for byte in part {
+        if let Some(line) = player.feed(*byte) {
+            ledger.enter_line(line, player.network());
         }
-        read(sheet, script, length, upto);
-        length = upto;
     }
-    length
 }
 
-// The script of a number, on the page; the answer is its length.
-pub(crate) fn make(sheet: &mut Sheet, script: &mut Page, ordinal: usize) -> usize {
-    let mood = mixed(ordinal % 65536 * 173961102589770 + 1);
-    let most = most_bytes(ordinal, mood);
-    if most > LONGEST {
-        add(sheet, plus(TALLY, UNKNOWN), 7, 1);
-        return most;
+// Makes a script of at most so many bytes.
+fn grow(player: &mut Player, script: &mut Script, most: usize, mood: Throw, ledger: &mut Ledger) {
+    for throw in Throws::after(mood).take(MOST_RECORDS) {
+        let length = script.len();
+        let network = player.network();
+        let is_stuck = network.is_stuck();
+        let piece = Draw {
+            network,
+            mood,
+            throw,
+        }
+        .piece();
+        let has_room = piece.append_to(script).is_ok() && script.len() <= most;
+        let is_last = is_stuck || !has_room;
+        if is_last {
+            script.truncate(cut(length, most, mood));
+        }
+        if let Some(part) = script.as_slice().get(length..) {
+            play(player, part, ledger);
+        }
+        if is_last {
+            return;
+        }
     }
-    wipe(sheet);
-    let length = grow(sheet, script, most, mood);
-    enter(sheet, end(sheet));
-    length
+}
+
+// Makes the script of a number, and enters what comes of its records. The answer is how many places
+// its drains passed over.
+pub(crate) fn make(ordinal: u32, script: &mut Script, ledger: &mut Ledger) -> usize {
+    let mood = Throw::of_script(ordinal);
+    let most = most_bytes(ordinal, mood);
+    script.clear();
+    if most > LONGEST {
+        let _ = script.extend(iter::repeat_n(0, most));
+        ledger.count(Label::Unmarked, Came::Refused(Refusal::ScriptTooLong));
+        return 0;
+    }
+    let mut player = Player::new();
+    grow(&mut player, script, most, mood, ledger);
+    if let Some(line) = player.end() {
+        ledger.enter_line(line, player.network());
+    }
+    player.network().passed_over()
 }

@@ -1,329 +1,423 @@
 // Scripts by chance. Records are drawn until one comes whose answer, as the network of the model is
-// by then, is welcome; so that orders of every outcome come in good number. A script has a mood,
-// its own throw, which gives its temper, a row of weights for the orders, and how many nodes are
-// wanted. The number after a throw tells one purpose from another.
-use crate::random::*;
-use model::network::*;
-use model::packed::*;
-use model::reading::*;
-use model::record::{node_and_two, record, serial};
-use model::rules::*;
-use model::sheet::*;
-use std::num::{wrapping_add_usize as plus, wrapping_sub_usize as minus};
+// by then, is welcome; so that orders of every outcome come in good number. A script has a mood, its
+// own throw, which gives its temper and how many nodes are wanted.
+use crate::chance::{Purpose, Throw};
+use crate::ledger::Came;
+use arrayvec::{ArrayVec, CapacityError};
+use model::answer::{Outcome, Refusal};
+use model::network::{Network, Step};
+use model::rules::Kind;
+use model::script::{Mark, Record, Serial};
+use std::iter;
 
-// For each order from BC to RD a share of a hundred. The tempers: few nodes and many orders; many
-// nodes; notices left lying until the network is full; drained often; anything; rings of one.
-const ORDERS: [usize; 54] = [
-    1, 1, 3, 25, 14, 47, 3, 3, 3, 2, 2, 1, 22, 7, 49, 7, 7, 3, 1, 1, 1, 22, 18, 50, 2, 2, 3, 2, 1,
-    3, 34, 18, 7, 7, 7, 21, 4, 4, 8, 22, 16, 30, 6, 5, 5, 1, 1, 14, 18, 20, 37, 3, 3, 3,
+const MARKS: [Mark; 9] = [
+    Mark::Bc,
+    Mark::Bn,
+    Mark::Cr,
+    Mark::Jn,
+    Mark::Lv,
+    Mark::Dl,
+    Mark::Oc,
+    Mark::On,
+    Mark::Rd,
 ];
 
-// The tempers that are told apart below.
-const HOARDING: usize = 2;
-
-const DRAINING: usize = 3;
-
-// For each answer from 22 on the share of a hundred in which it is welcome; HOPELESS stands for a
-// request that would not be granted now.
-const WELCOME: [usize; 25] = [
-    5, 4, 8, 60, 8, 100, 40, 8, 15, 10, 40, 100, 40, 100, 100, 50, 100, 60, 100, 100, 100, 100,
-    100, 100, 50,
-];
-
-const HOPELESS: usize = 31;
+// Marks that are none.
+const NO_MARKS: [[u8; 2]; 4] = [*b"--", *b"bc", *b"Jn", *b"XX"];
 
 // How many records are drawn before a question takes their place.
 const DRAWS: usize = 12;
 
-fn wanted_nodes(mood: usize) -> usize {
-    let few = below(mood, 2, 4);
-    let many = below(mood, 2, 36);
-    match below(mood, 1, 6) {
-        0 => plus(few, 2),
-        5 => plus(few, 1),
-        _ => if many < 28 { plus(many, 4) } else { 32 },
+// Few nodes and many orders; many nodes; notices left lying until the network is full; drained often;
+// anything; rings of one.
+#[derive(Clone, Copy, Eq, PartialEq)]
+enum Temper {
+    Few,
+    Many,
+    Hoarding,
+    Draining,
+    Any,
+    Lone,
+}
+
+const TEMPERS: [Temper; 6] = [
+    Temper::Few,
+    Temper::Many,
+    Temper::Hoarding,
+    Temper::Draining,
+    Temper::Any,
+    Temper::Lone,
+];
+
+impl Temper {
+    fn of(mood: Throw) -> Temper {
+        TEMPERS[mood.below(Purpose::Temper, 6) as usize]
     }
-}
 
-// Before notices are left lying, the nodes wanted are declared and the network is drained often.
-fn temper(network: &Sheet, mood: usize) -> usize {
-    let own = below(mood, 1, 6);
-    let is_early = count(network, NODES) < wanted_nodes(mood);
-    if own == HOARDING && is_early {
-        DRAINING
-    } else {
-        own
-    }
-}
-
-fn order_share(place: usize) -> usize {
-    if place < 54 { ORDERS[place] } else { 0 }
-}
-
-fn some_order(temper: usize, throw: usize) -> usize {
-    let mut left = below(throw, 5, 100);
-    for order in 0..9 {
-        let share = order_share(temper % 6 * 9 + order);
-        if left < share {
-            return order;
+    // For each of the marks a share of a hundred.
+    fn shares(self) -> [u32; 9] {
+        match self {
+            Temper::Few => [1, 1, 3, 25, 14, 47, 3, 3, 3],
+            Temper::Many => [2, 2, 1, 22, 7, 49, 7, 7, 3],
+            Temper::Hoarding => [1, 1, 1, 22, 18, 50, 2, 2, 3],
+            Temper::Draining => [2, 1, 3, 34, 18, 7, 7, 7, 21],
+            Temper::Any => [4, 4, 8, 22, 16, 30, 6, 5, 5],
+            Temper::Lone => [1, 1, 14, 18, 20, 37, 3, 3, 3],
         }
-        left = minus(left, share);
-    }
-    BC
-}
-
-fn any(network: &Sheet, throw: usize, purpose: usize) -> usize {
-    below(throw, purpose, count(network, NODES))
-}
-
-// A serial: at either end of the range, the key of a node or the one after, or any.
-fn some_serial(network: &Sheet, throw: usize) -> usize {
-    let key = get(network, KEY, any(network, throw, 6));
-    match below(throw, 7, 16) {
-        0 => 0,
-        1 => 1,
-        2 => 99999998,
-        3 => 99999999,
-        4 | 5 => key,
-        6 => plus(key, 1),
-        _ => below(throw, 8, 100000000),
     }
 }
 
-// Where the nodes wanted are there, most declarations are of a key that is taken.
-fn key_to_declare(network: &Sheet, mood: usize, throw: usize) -> usize {
-    let is_enough = count(network, NODES) >= wanted_nodes(mood);
-    let taken = get(network, KEY, any(network, throw, 9));
-    if is_enough && below(throw, 10, 8) > 0 {
-        taken
-    } else {
-        some_serial(network, throw)
-    }
-}
-
-// A join before the node that a walk from some node finds to own the key, and in a few cases with
-// any node on the right.
-fn some_join(network: &Sheet, throw: usize) -> usize {
-    let node = any(network, throw, 11);
-    let start = any(network, throw, 12);
-    let left = after_hops(
-        network,
-        start,
-        hops_to_owner(network, start, get(network, KEY, node)),
-    );
-    let is_odd = below(throw, 13, 8) == 0;
-    node_and_two(
-        node,
-        left,
-        if is_odd {
-            any(network, throw, 14)
-        } else {
-            right(network, left)
+// The share of a hundred in which a record is welcome, by what is foreseen of it: the answer, or
+// nothing, for a request that would not be granted now.
+fn welcome_share(foreseen: Option<Came>) -> u32 {
+    match foreseen {
+        None => 10,
+        Some(Came::Refused(refusal)) => match refusal {
+            Refusal::NotAllOut => 5,
+            Refusal::NotOut => 4,
+            Refusal::NoticeWaits => 60,
+            Refusal::LastNumber => 100,
+            Refusal::QueueFull => 40,
+            Refusal::NotInserted => 15,
+            Refusal::NotBetween | Refusal::NotIn | Refusal::NoMessage => 8,
+            _ => 0,
         },
-    )
-}
-
-// The first message, the last, or any, and a few places where no message need be; where notices are
-// to lie, anything else behind the first.
-fn some_place(network: &Sheet, temper: usize, throw: usize) -> usize {
-    let messages = count(network, UNDERWAY);
-    let some = below(throw, 16, messages);
-    if temper == HOARDING {
-        return place_of_no_notice(network, plus(some, 1));
-    }
-    match below(throw, 15, 16) {
-        0 => messages,
-        1 => below(throw, 16, 256),
-        2 | 3 => 0,
-        4 | 5 => minus(messages, 1),
-        _ => some,
+        Some(Came::Declared | Came::Ran) => 40,
+        Some(Came::Done(Outcome::Denied)) => 60,
+        Some(Came::Done(Outcome::Out | Outcome::Dropped)) => 50,
+        Some(_) => 100,
     }
 }
 
-fn some_budget(throw: usize) -> usize {
-    let some = below(throw, 17, 65536);
-    match below(throw, 18, 12) {
-        0 => 65535,
-        1 => some,
-        2 => some % 64,
-        _ => some % 6,
-    }
+// What stands in a script: a record, or two bytes that are no mark and one more.
+#[derive(Clone, Copy)]
+pub(crate) enum Piece {
+    Record(Record),
+    NoMark([u8; 3]),
 }
 
-fn some_record(network: &Sheet, mood: usize, throw: usize) -> usize {
-    let temper = temper(network, mood);
-    let order = some_order(temper, throw);
-    match order {
-        BC | BN => record(
-            order,
-            0,
-            serial(order, key_to_declare(network, mood, throw)),
-        ),
-        JN => some_join(network, throw),
-        DL => record(order, some_place(network, temper, throw), 0),
-        OC | ON => record(
-            order,
-            any(network, throw, 19),
-            serial(order, some_serial(network, throw)),
-        ),
-        RD => record(order, 0, some_budget(throw)),
-        _ => record(order, any(network, throw, 20), 0),
-    }
-}
-
-fn prospect(network: &Sheet, answer: usize, left: usize, request: usize) -> usize {
-    if answer != WAITING {
-        return answer;
-    }
-    if grants(word(network, left), request) {
-        WAITING
-    } else {
-        HOPELESS
-    }
-}
-
-fn join_foreseen(network: &Sheet, node: usize, left: usize, right: usize) -> usize {
-    prospect(
-        network,
-        answer_to_join(network, node, left, right),
-        left,
-        message(SETR, node, left, node, right, 0),
-    )
-}
-
-// A node that goes out with a request on the way to it leaves the sender waiting for ever.
-fn leave_foreseen(network: &Sheet, node: usize) -> usize {
-    let left = digit(word(network, node), LEFT);
-    if get(network, REQUESTS, node) > 0 {
-        return HOPELESS;
-    }
-    prospect(
-        network,
-        answer_to_leave(network, node),
-        left,
-        message(SETR, node, left, right(network, node), node, 0),
-    )
-}
-
-// What a record of declared nodes will be answered, and for a request what will come of it, as far
-// as it matters here.
-fn foreseen(network: &Sheet, drawn: usize) -> usize {
-    let first = drawn / 16 % 256;
-    match drawn % 16 {
-        BC | BN => DECLARED,
-        CR => answer_to_create(network, first),
-        JN => join_foreseen(network, first, drawn / 4096 % 256, drawn / 1048576 % 256),
-        LV => leave_foreseen(network, first),
-        DL => answer_to_deliver(network, first),
-        RD => RAN,
-        _ => if is_inserted(network, first) {
-            OWNER
-        } else {
-            30
-        },
-    }
-}
-
-fn welcome_share(answer: usize) -> usize {
-    let place = minus(answer, 22);
-    if place < 25 { WELCOME[place] } else { 0 }
-}
-
-// Where notices are to lie, none is delivered but for a few, nor is the first message, and nothing
-// is drained before the network is full.
-fn hoarding_share(network: &Sheet, answer: usize, drawn: usize) -> usize {
-    let is_full = count(network, UNDERWAY) == FULL;
-    match answer {
-        LEFT_SET | LEFT_OLD => 2,
-        RAN => if is_full { 100 } else { 8 },
-        _ => if drawn == record(DL, 0, 0) {
-            4
-        } else {
-            welcome_share(answer)
-        },
-    }
-}
-
-fn is_welcome(network: &Sheet, mood: usize, throw: usize, drawn: usize) -> bool {
-    let answer = foreseen(network, drawn);
-    let is_hoarding = temper(network, mood) == HOARDING;
-    let share = if is_hoarding {
-        hoarding_share(network, answer, drawn)
-    } else {
-        welcome_share(answer)
-    };
-    below(throw, 21, 100) < share
-}
-
-// A serial with a fault: a digit above 9 where it is packed; where it is binary too large, by one
-// or by more, up to all that four bytes hold.
-fn faulty_serial(network: &Sheet, throw: usize, order: usize) -> usize {
-    let more = below(throw, 22, 4194967296);
-    match order {
-        BC | OC => serial(order, some_serial(network, throw)) | 10 << (more % 8 * 4),
-        _ => match below(throw, 23, 4) {
-            0 => 100000000,
-            1 => 4294967295,
-            2 => plus(100000000, more % 1000),
-            _ => plus(100000000, more),
-        },
-    }
-}
-
-// A record with a fault in its fields, where a question or a join may have two; or, in a few cases,
-// a mark that is none.
-fn faulty(network: &Sheet, throw: usize) -> usize {
-    let nodes = count(network, NODES);
-    let wrong = either(
-        throw,
-        24,
-        nodes,
-        plus(nodes, below(throw, 25, minus(256, nodes))),
-    );
-    let some = below(throw, 26, nodes);
-    let maybe = either(throw, 27, wrong, some);
-    let order = below(throw, 28, 9);
-    match order {
-        JN => if below(throw, 29, 2) == 0 {
-            node_and_two(some, maybe, wrong)
-        } else {
-            node_and_two(wrong, maybe, some)
-        },
-        RD => if below(throw, 30, 8) == 0 {
-            record(plus(UNKNOWN, below(throw, 29, 4)), wrong, 0)
-        } else {
-            record(CR, wrong, 0)
-        },
-        LV => record(order, wrong, 0),
-        _ => record(order, maybe, faulty_serial(network, throw, order)),
-    }
-}
-
-fn welcome_record(network: &Sheet, mood: usize, throw: usize) -> usize {
-    let mut own = throw;
-    for _ in 0..DRAWS {
-        let drawn = some_record(network, mood, own);
-        if is_welcome(network, mood, own, drawn) {
-            return drawn;
+impl Piece {
+    pub(crate) fn append_to<const N: usize>(
+        self,
+        script: &mut ArrayVec<u8, N>,
+    ) -> Result<(), CapacityError> {
+        match self {
+            Piece::Record(record) => record.append_to(script),
+            Piece::NoMark(bytes) => script.try_extend_from_slice(&bytes),
         }
-        own = mixed(own);
     }
-    record(ON, any(network, throw, 35), some_serial(network, throw))
 }
 
-// The next record of a script, for the network as it is.
-pub(crate) fn choose(network: &Sheet, mood: usize, throw: usize) -> usize {
-    let is_early = count(network, NODES) < wanted_nodes(mood);
-    let is_tight = is_full_behind_request(network);
-    if is_early && below(throw, 31, 3) == 0 {
-        return record(BC, 0, serial(BC, some_serial(network, throw)));
+// What a record is drawn from: the network as it is, the script's mood and a throw.
+#[derive(Clone, Copy)]
+pub(crate) struct Draw<'a> {
+    pub(crate) network: &'a Network,
+    pub(crate) mood: Throw,
+    pub(crate) throw: Throw,
+}
+
+impl Draw<'_> {
+    fn wanted_nodes(&self) -> u8 {
+        let few = self.mood.byte_below(Purpose::NodesWanted, 4);
+        let many = self.mood.byte_below(Purpose::NodesWanted, 36);
+        match Temper::of(self.mood) {
+            Temper::Few => few.saturating_add(2),
+            Temper::Lone => few.saturating_add(1),
+            _ => many.saturating_add(4).min(32),
+        }
     }
-    if is_tight && below(throw, 32, 2) == 0 {
-        return record(RD, 0, plus(below(throw, 33, 3), 1));
+
+    // Before the nodes wanted are there.
+    fn is_early(&self) -> bool {
+        self.network.declared_nodes() < self.wanted_nodes()
     }
-    if below(throw, 34, 32) == 0 {
-        faulty(network, throw)
-    } else {
-        welcome_record(network, mood, throw)
+
+    // Before notices are left lying, the nodes wanted are declared and the network is drained often.
+    fn temper(&self) -> Temper {
+        match Temper::of(self.mood) {
+            Temper::Hoarding if self.is_early() => Temper::Draining,
+            own => own,
+        }
+    }
+
+    fn mark(&self) -> Mark {
+        let mut left = self.throw.below(Purpose::Mark, 100);
+        for (mark, share) in MARKS.iter().zip(self.temper().shares()) {
+            match left.checked_sub(share) {
+                Some(rest) => left = rest,
+                None => return *mark,
+            }
+        }
+        Mark::Bc
+    }
+
+    fn any_node(&self, purpose: Purpose) -> u8 {
+        self.throw
+            .byte_below(purpose, self.network.declared_nodes())
+    }
+
+    fn key_of_any(&self, purpose: Purpose) -> u32 {
+        self.network.node(self.any_node(purpose)).key
+    }
+
+    // A serial: at either end of the range, the key of a node or the one after, or any.
+    fn serial(&self) -> u32 {
+        let key = self.key_of_any(Purpose::NodeOfSerial);
+        match self.throw.below(Purpose::SerialKind, 16) {
+            0 => 0,
+            1 => 1,
+            2 => 99_999_998,
+            3 => 99_999_999,
+            4 | 5 => key,
+            6 => key.saturating_add(1),
+            _ => self.throw.below(Purpose::Serial, 100_000_000),
+        }
+    }
+
+    // Where the nodes wanted are there, most declarations are of a key that is taken.
+    fn key_to_declare(&self) -> u32 {
+        if self.is_early() || self.throw.one_of(Purpose::TakenKey, 8) {
+            self.serial()
+        } else {
+            self.key_of_any(Purpose::NodeOfTakenKey)
+        }
+    }
+
+    // A join before the node that a walk from some node finds to own the key, and in a few cases with
+    // any node on the right.
+    fn join(&self) -> Record {
+        let network = self.network;
+        let node = self.any_node(Purpose::Joiner);
+        let start = self.any_node(Purpose::StartOfWalk);
+        let left = match network.owner_from(start, network.node(node).key) {
+            Some((_, owner)) => owner,
+            None => network.after_hops(start, network.declared_nodes()),
+        };
+        let right = if self.throw.one_of(Purpose::OddJoin, 8) {
+            self.any_node(Purpose::OddRight)
+        } else {
+            network.node(left).right
+        };
+        Record::Join { node, left, right }
+    }
+
+    // The first message, the last, or any, and a few places where no message need be; where notices
+    // are to lie, anything else behind the first.
+    fn place(&self) -> u8 {
+        let waiting = self.network.waiting();
+        let some = self.throw.byte_below(Purpose::Place, waiting);
+        if self.temper() == Temper::Hoarding {
+            return (some.saturating_add(1)..waiting)
+                .find(|place| {
+                    let message = self.network.messages().get(usize::from(*place));
+                    message.is_some_and(|message| message.kind != Kind::SetL)
+                })
+                .unwrap_or(waiting);
+        }
+        match self.throw.below(Purpose::PlaceKind, 16) {
+            0 => waiting,
+            1 => self.throw.below(Purpose::Place, 256) as u8,
+            2 | 3 => 0,
+            4 | 5 => waiting.wrapping_sub(1),
+            _ => some,
+        }
+    }
+
+    fn budget(&self) -> u16 {
+        let some = self.throw.below(Purpose::Budget, 65_536) as u16;
+        match self.throw.below(Purpose::BudgetKind, 12) {
+            0 => u16::MAX,
+            1 => some,
+            2 => some % 64,
+            _ => some % 6,
+        }
+    }
+
+    fn record(&self) -> Record {
+        match self.mark() {
+            Mark::Bc => Record::Declare(Serial::packed(self.key_to_declare())),
+            Mark::Bn => Record::Declare(Serial::binary(self.key_to_declare())),
+            Mark::Cr => Record::Create {
+                node: self.any_node(Purpose::Node),
+            },
+            Mark::Jn => self.join(),
+            Mark::Lv => Record::Leave {
+                node: self.any_node(Purpose::Node),
+            },
+            Mark::Dl => Record::Deliver {
+                place: self.place(),
+            },
+            Mark::Oc => Record::Owner {
+                start: self.any_node(Purpose::StartOfQuestion),
+                serial: Serial::packed(self.serial()),
+            },
+            Mark::On => Record::Owner {
+                start: self.any_node(Purpose::StartOfQuestion),
+                serial: Serial::binary(self.serial()),
+            },
+            Mark::Rd => Record::Drain {
+                budget: self.budget(),
+            },
+        }
+    }
+
+    fn prospect(&self, step: Result<Step, Refusal>) -> Option<Came> {
+        match step {
+            Err(refusal) => Some(Came::Refused(refusal)),
+            Ok(step) => match step.request() {
+                Some(request) if !self.network.node(request.addressee).grants(request) => None,
+                _ => Some(Came::Done(step.outcome)),
+            },
+        }
+    }
+
+    // What a record of declared nodes will be answered, as far as it matters here, or nothing where
+    // it posts a request that would not be granted now. A node that goes out with a request on the
+    // way to it leaves the sender waiting for ever.
+    fn foreseen(&self, record: Record) -> Option<Came> {
+        let network = self.network;
+        match record {
+            Record::Declare(_) => Some(Came::Declared),
+            Record::Create { node } => self.prospect(network.creation(node)),
+            Record::Join { node, left, right } => self.prospect(network.joining(node, left, right)),
+            Record::Leave { node } if network.awaits(node, Kind::SetR) => None,
+            Record::Leave { node } => self.prospect(network.leaving(node)),
+            Record::Deliver { place } => self.prospect(network.delivery(usize::from(place))),
+            Record::Owner { start, .. } if network.is_inserted(start) => Some(Came::Owner),
+            Record::Owner { .. } => Some(Came::Refused(Refusal::NotInserted)),
+            Record::Drain { .. } => Some(Came::Ran),
+        }
+    }
+
+    // Where notices are to lie, none is delivered but for a few, nor is the first message, and
+    // nothing is drained before the network is full.
+    fn share(&self, record: Record) -> u32 {
+        let foreseen = self.foreseen(record);
+        if self.temper() != Temper::Hoarding {
+            return welcome_share(foreseen);
+        }
+        match (foreseen, record) {
+            (Some(Came::Done(Outcome::LeftSet | Outcome::LeftOld)), _) => 2,
+            (_, Record::Drain { .. }) => if self.network.is_full() { 100 } else { 8 },
+            (_, Record::Deliver { place: 0 }) => 4,
+            _ => welcome_share(foreseen),
+        }
+    }
+
+    fn welcome_record(&self) -> Option<Record> {
+        let record = self.record();
+        (self.throw.below(Purpose::Welcome, 100) < self.share(record)).then_some(record)
+    }
+
+    // A serial with a fault: a digit above 9 where it is packed; where it is binary too large, by one
+    // or by more, up to all that four bytes hold.
+    fn faulty_packed(&self) -> Serial {
+        let digit = self.throw.below(Purpose::SerialFault, 4_194_967_296) % 8;
+        match Serial::packed(self.serial()) {
+            Serial::Packed(bytes) => {
+                let faulty = u32::from_le_bytes(bytes) | 10 << (digit * 4);
+                Serial::Packed(faulty.to_le_bytes())
+            }
+            binary => binary,
+        }
+    }
+
+    fn faulty_binary(&self) -> Serial {
+        let more = self.throw.below(Purpose::SerialFault, 4_194_967_296);
+        Serial::binary(match self.throw.below(Purpose::SerialFaultKind, 4) {
+            0 => 100_000_000,
+            1 => u32::MAX,
+            2 => 100_000_000 + more % 1_000,
+            _ => 100_000_000 + more,
+        })
+    }
+
+    fn faulty_join(&self, some: u8, maybe: u8, wrong: u8) -> Record {
+        let (node, right) = if self.throw.one_of(Purpose::FaultyField, 2) {
+            (some, wrong)
+        } else {
+            (wrong, some)
+        };
+        Record::Join {
+            node,
+            left: maybe,
+            right,
+        }
+    }
+
+    fn no_mark(&self, byte: u8) -> Piece {
+        let [first, second] = NO_MARKS[self.throw.below(Purpose::FaultyField, 4) as usize];
+        Piece::NoMark([first, second, byte])
+    }
+
+    // A record with a fault in its fields, where a question or a join may have two; or, in a few
+    // cases, a mark that is none.
+    fn faulty(&self) -> Piece {
+        let throw = self.throw;
+        let nodes = self.network.declared_nodes();
+        let wrong = if throw.one_of(Purpose::FirstUndeclared, 2) {
+            nodes
+        } else {
+            let limit = 256 - u32::from(nodes);
+            nodes.saturating_add(throw.below(Purpose::Undeclared, limit) as u8)
+        };
+        let some = self.any_node(Purpose::Declared);
+        let maybe = if throw.one_of(Purpose::SecondFault, 2) {
+            wrong
+        } else {
+            some
+        };
+        Piece::Record(match MARKS[throw.below(Purpose::FaultyMark, 9) as usize] {
+            Mark::Bc => Record::Declare(self.faulty_packed()),
+            Mark::Bn => Record::Declare(self.faulty_binary()),
+            Mark::Cr => Record::Create { node: maybe },
+            Mark::Jn => self.faulty_join(some, maybe, wrong),
+            Mark::Lv => Record::Leave { node: wrong },
+            Mark::Dl => Record::Deliver { place: maybe },
+            Mark::Oc => Record::Owner {
+                start: maybe,
+                serial: self.faulty_packed(),
+            },
+            Mark::On => Record::Owner {
+                start: maybe,
+                serial: self.faulty_binary(),
+            },
+            Mark::Rd if throw.one_of(Purpose::NoMark, 8) => return self.no_mark(wrong),
+            Mark::Rd => Record::Create { node: wrong },
+        })
+    }
+
+    // A record that is welcome, if one comes soon enough, and else a question.
+    fn steered(&self) -> Record {
+        iter::successors(Some(self.throw), |throw| Some(throw.again()))
+            .take(DRAWS)
+            .find_map(|throw| Draw { throw, ..*self }.welcome_record())
+            .unwrap_or_else(|| Record::Owner {
+                start: self.any_node(Purpose::StartOfLastQuestion),
+                serial: Serial::binary(self.serial()),
+            })
+    }
+
+    // The network is full and a request comes first: a drain may have to pass it over.
+    fn is_tight(&self) -> bool {
+        let first = self.network.messages().first();
+        self.network.is_full() && first.is_some_and(|message| message.kind == Kind::SetR)
+    }
+
+    // What comes next in a script, for the network as it is.
+    pub(crate) fn piece(&self) -> Piece {
+        let throw = self.throw;
+        if self.is_early() && throw.one_of(Purpose::EarlyDeclaration, 3) {
+            return Piece::Record(Record::Declare(Serial::packed(self.serial())));
+        }
+        if self.is_tight() && throw.one_of(Purpose::TightDrain, 2) {
+            let budget = throw.below(Purpose::TightBudget, 3) as u16 + 1;
+            return Piece::Record(Record::Drain { budget });
+        }
+        if throw.one_of(Purpose::Fault, 32) {
+            self.faulty()
+        } else {
+            Piece::Record(self.steered())
+        }
     }
 }

@@ -4,7 +4,7 @@
 use mathlib.Core.Path.{◌≡◌, refl, ap}
 use mathlib.Core.Bool.{false, not}
 use mathlib.Core.List.{List, ◌∷◌}
-use mathlib.Core.Option.{Option, none, some}
+use Rattle.std.specs.Prelude.{Option, None, Some, Result, Ok, Err}
 use Prim.Native.Nat.{ℕ}
 use lib.Dec.{T, eqb}
 use Rattle.predicates.proofs.Laws.{impossible}
@@ -12,8 +12,8 @@ use Rattle.predicates.proofs.TestLaws.{is_true, not-both}
 use Rattle.refusal.specs.Code.{Reason, plain}
 use Rattle.refusal.specs.Rules.{no, ◌when◌, first, unless_refused}
 use Rattle.refusal.proofs.Laws.{Never, end, other, fails, never}
-use Rattle.serial.specs.declared.Serial.{Serial}
-use Rattle.serial.specs.declared.Serial.TheVariants.{Value, BadDigit, TooLarge}
+use Rattle.serial.specs.declared.SerialError.{SerialError}
+use Rattle.serial.specs.declared.SerialError.TheVariants.{BadDigit, TooLarge}
 use Rattle.serial.specs.Serial.{coded}
 use Rattle.protocol.specs.declared.Order.TheVariants.{Declare as DeclareOrder}
 use Rattle.protocol.specs.declared.Call.{Call as AnyCall}
@@ -31,10 +31,10 @@ use Rattle.script.specs.declared.Record.TheVariants.{Call, Declare, Owner, Drain
 use Rattle.course.specs.Execution.{unread, field_rules, value_of, executing, execute_of}
 
 -- ---- the fields give 3, 4 and 5
-serial_gives : {n : ℕ} → eqb 3 n ≡ false → eqb 4 n ≡ false → (serial : Serial) → Never n (unread (coded serial))
-serial_gives three four (Value d) = end
-serial_gives three four BadDigit = other three (λ _. end)
-serial_gives three four TooLarge = other four (λ _. end)
+serial_gives : {n : ℕ} → eqb 3 n ≡ false → eqb 4 n ≡ false → (serial : Result ℕ SerialError) → Never n (unread (coded serial))
+serial_gives three four (Ok d) = end
+serial_gives three four (Err BadDigit) = other three (λ _. end)
+serial_gives three four (Err TooLarge) = other four (λ _. end)
 
 fields_give : {n : ℕ} → eqb 3 n ≡ false → eqb 4 n ≡ false → eqb 5 n ≡ false → (s : State) (asked : Record) → Never n (field_rules s asked)
 fields_give three four five s (Call call) = end
@@ -51,8 +51,8 @@ said_by_doing s w asked {n} fields doing e = go (first ((6 when not (well_formed
     rules = fails (ap not (is_true (well_formed s) w)) fields
 
     go : (o : Option Reason) → first ((6 when not (well_formed s)) ∷ field_rules s asked) ≡ o → ¬ ((unless_refused o (refused s) (executing s asked)).said ≡ no (plain n))
-    go none clear f = doing f
-    go (some r) refuses f = never rules cc
+    go None clear f = doing f
+    go (Some r) refuses f = never rules cc
 
 -- a drain of a well-formed network is not refused
 drain_done : (s : State) → T (well_formed s) → (budget : ℕ) (r : Reason) → ¬ ((executing s (Drain budget)).said ≡ no r)

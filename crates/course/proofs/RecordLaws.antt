@@ -4,7 +4,7 @@ use mathlib.Core.Path.{◌≡◌, refl}
 use mathlib.Core.Logic.{⊎_elim}
 use mathlib.Core.Bool.{not}
 use mathlib.Core.List.{List, [], ◌∷◌}
-use mathlib.Core.Option.{Option, none, some}
+use Rattle.std.specs.Prelude.{Option, None, Some}
 use Prim.Native.Nat.{ℕ, ◌+◌, ◌≤◌}
 use native.Mathlib.Omega.{arith}
 use lib.ListN.{length}
@@ -46,8 +46,8 @@ module _ (s : State) (w : T (well_formed s)) where
   record-kept asked = rw (is_true (well_formed s) w) (go (first (field_rules s asked)))
     where
       go : (o : Option Reason) → T (well_formed (unless_refused o (refused s) (executing s asked)).state)
-      go none = executing-kept asked
-      go (some r) = w
+      go None = executing-kept asked
+      go (Some r) = w
 
 -- ---- how many messages a record posts
 counted-apart : (ms : List Message) → count (λ m. is_request m.kind) ms + count (λ m. not (is_request m.kind)) ms ≡ length ms
@@ -79,8 +79,8 @@ module _ (s : State) (w : T (well_formed s)) where
   record-posts asked = rw (is_true (well_formed s) w) (go (first (field_rules s asked)))
     where
       go : (o : Option Reason) → length (unless_refused o (refused s) (executing s asked)).posts ≤ 384
-      go none = executing-posts asked
-      go (some r) = omega arith
+      go None = executing-posts asked
+      go (Some r) = omega arith
 
 -- ---- a refused record leaves the network as it was, and posts nothing
 executing-refused : (s : State) (asked : Record) (r : Reason) → (executing s asked).said ≡ no r → executing s asked ≡ refused s r
@@ -94,5 +94,5 @@ unfolding execute_of
 lists-refused-same s asked r e = go (first ((6 when not (well_formed s)) ∷ field_rules s asked)) e
   where
     go : (o : Option Reason) → (unless_refused o (refused s) (executing s asked)).said ≡ no r → unless_refused o (refused s) (executing s asked) ≡ refused s r
-    go none f = executing-refused s asked r f
-    go (some n) f = cc
+    go None f = executing-refused s asked r f
+    go (Some n) f = cc

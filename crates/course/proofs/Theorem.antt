@@ -8,7 +8,7 @@ use mathlib.Core.List.{List, [], ◌∷◌, ◌++◌, map, append-nil, append_as
 use mathlib.Core.List.Memᴰ.{append_cases as in-part}
 use mathlib.Core.List.Memᴰ.{eq_of_singleton as in_one}
 use mathlib.Core.List.Memᴰ.{not-nil as in-none}
-use mathlib.Core.Option.{Option, none, some}
+use Rattle.std.specs.Prelude.{Option, None, Some, Ok, Err}
 use Prim.Native.Nat.{ℕ, zero, suc, ◌+◌}
 use native.Mathlib.Omega.{arith}
 use lib.ListN.{length, length-append}
@@ -18,7 +18,7 @@ use Rattle.predicates.proofs.Laws.{impossible}
 use Rattle.predicates.proofs.TestLaws.{◌∈◌, is_true}
 use Rattle.refusal.specs.Code.{Reason, plain}
 use Rattle.refusal.specs.Rules.{Coded, no, first, unless_refused}
-use Rattle.serial.specs.declared.Serial.TheVariants.{Value, BadDigit, TooLarge}
+use Rattle.serial.specs.declared.SerialError.TheVariants.{BadDigit, TooLarge}
 use Rattle.protocol.specs.declared.Order.TheVariants.{Declare}
 use Rattle.protocol.specs.declared.Call.{Call}
 use Rattle.protocol.specs.declared.Call.TheVariants.{Order, Deliver}
@@ -69,19 +69,19 @@ module _ (calls : List Call) where
   drained-so : (budget : ℕ) → Follows calls (map Deliver (places budget here)) (drain_of here budget)
   drained-so budget = let d = drain_is_calls calls budget in record { state = d.state; posts = d.posts }
 
-  done-so : (asked : Record) → first (field_rules here asked) ≡ none → Follows calls (calls_of here asked) (executing here asked)
+  done-so : (asked : Record) → first (field_rules here asked) ≡ None → Follows calls (calls_of here asked) (executing here asked)
   done-so (CallRecord call) clear = one-call call
-  done-so (DeclareRecord (Value key)) clear = one-call (Order (Declare key))
-  done-so (DeclareRecord BadDigit) clear = impossible cc
-  done-so (DeclareRecord TooLarge) clear = impossible cc
+  done-so (DeclareRecord (Ok key)) clear = one-call (Order (Declare key))
+  done-so (DeclareRecord (Err BadDigit)) clear = impossible cc
+  done-so (DeclareRecord (Err TooLarge)) clear = impossible cc
   done-so (OwnerRecord from serial) clear = nothing-more (executing here (OwnerRecord from serial)) refl refl
   done-so (DrainRecord budget) clear = drained-so budget
 
-  refused-so : (asked : Record) (r : Reason) → first (field_rules here asked) ≡ some r → Follows calls (calls_of here asked) (refused here r)
+  refused-so : (asked : Record) (r : Reason) → first (field_rules here asked) ≡ Some r → Follows calls (calls_of here asked) (refused here r)
   refused-so (CallRecord call) r e = impossible cc
-  refused-so (DeclareRecord (Value key)) r e = impossible cc
-  refused-so (DeclareRecord BadDigit) r e = nothing-more (refused here r) refl refl
-  refused-so (DeclareRecord TooLarge) r e = nothing-more (refused here r) refl refl
+  refused-so (DeclareRecord (Ok key)) r e = impossible cc
+  refused-so (DeclareRecord (Err BadDigit)) r e = nothing-more (refused here r) refl refl
+  refused-so (DeclareRecord (Err TooLarge)) r e = nothing-more (refused here r) refl refl
   refused-so (OwnerRecord from serial) r e = nothing-more (refused here r) refl refl
   refused-so (DrainRecord budget) r e = impossible cc
 
@@ -90,8 +90,8 @@ module _ (calls : List Call) where
   follows asked = rw (is_true (well_formed here) well-formed) (go (first (field_rules here asked)) refl)
     where
       go : (o : Option Reason) → first (field_rules here asked) ≡ o → Follows calls (calls_of here asked) (unless_refused o (refused here) (executing here asked))
-      go none clear = done-so asked clear
-      go (some r) refuses = refused-so asked r refuses
+      go None clear = done-so asked clear
+      go (Some r) refuses = refused-so asked r refuses
 
 -- ---- record by record
 abbrev Sofar : List Call → Progress → Type 0

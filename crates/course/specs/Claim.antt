@@ -1,11 +1,10 @@
 -- R10.11, what a script does to the network, as a list of calls: after each of its records the
 -- network is the one that these calls make, so all that is claimed of any list of calls holds of
 -- it, and the messages posted are theirs; and what its printout says. Definitions only.
-use Rattle.std.specs.Prelude.{ℕ, zero, suc, ◌≡◌}
+use Rattle.std.specs.Prelude.{ℕ, zero, suc, ◌≡◌, Ok, Err}
 use mathlib.Core.List.{List, [], ◌∷◌, ◌++◌, map, Memᴰ}
 use Rattle.refusal.specs.Code.{plain}
 use Rattle.refusal.specs.Rules.{Coded, no}
-use Rattle.serial.specs.declared.Serial.TheVariants.{Value, BadDigit, TooLarge}
 use Rattle.protocol.specs.declared.Order.TheVariants.{Declare}
 use Rattle.protocol.specs.declared.Call.{Call}
 use Rattle.protocol.specs.declared.Call.TheVariants.{Order, Deliver}
@@ -26,9 +25,8 @@ use Rattle.course.specs.Run.{after}
 -- a drain counts as its deliveries
 abbrev pub calls_of : State → Record → List Call
 calls_of s (CallRecord call) = call ∷ []
-calls_of s (DeclareRecord (Value key)) = Order (Declare key) ∷ []
-calls_of s (DeclareRecord BadDigit) = []
-calls_of s (DeclareRecord TooLarge) = []
+calls_of s (DeclareRecord (Ok key)) = Order (Declare key) ∷ []
+calls_of s (DeclareRecord (Err e)) = []
 calls_of s (OwnerRecord start serial) = []
 calls_of s (DrainRecord budget) = map Deliver (places budget s)
 

@@ -1,8 +1,8 @@
 -- No rules stand here: it is what the code makes of what the rules say, and of a node's step.
 -- Definitions only.
-use Rattle.std.specs.Prelude.{ℕ, ◌+◌, not, List, [], ◌∷◌, length, leb}
-use Rattle.std.proofs.Math.Option.{Option, some}
-use Rattle.refusal.specs.Code.{Reason}
+use Rattle.std.specs.Prelude.{ℕ, ◌+◌, not, List, [], ◌∷◌, length, leb, Option, Some, Result, Ok, Err}
+use Rattle.refusal.specs.declared.Refusal.{Refusal}
+use Rattle.refusal.specs.Code.{Reason, reason}
 use Rattle.refusal.specs.Rules.{Coded, done, no, Rule, ◌when◌}
 use Rattle.parts.specs.declared.Message.{Message}
 use Rattle.node.specs.Shape.{declared_of}
@@ -31,11 +31,12 @@ pub record Decided : Type 0 where
   pub posted : ℕ
   pub said : Coded Reply
 
-abbrev pub decided : Decision → Decided
-decided d = record { change = written d.change; posted = d.report.posted; said = answered d.report.answer }
-
 abbrev pub turned_away : Reason → Decided
 turned_away r = record { change = nothing; posted = 0; said = no r }
+
+abbrev pub decided : Result Decision Refusal → Decided
+decided (Ok d) = record { change = written d.change; posted = d.report.posted; said = answered d.report.answer }
+decided (Err r) = turned_away (reason r)
 
 abbrev pub adding : ℕ → ℕ → Decided
 adding number key = record { change = adds (declared_of key); posted = 0; said = done (Declared number key) }
@@ -50,7 +51,7 @@ delivering place u e = record { change = delivers place u e.node e.posts; posted
 -- after a node's step: what the step refuses, and else what the rest says
 abbrev pub after_step : {A : Type 0} → Coded A → Option Reason → Option Reason
 after_step (done a) rest = rest
-after_step (no r) rest = some r
+after_step (no r) rest = Some r
 
 -- the posts of a step find no room after so many messages, which is how the code comes to 28
 abbrev pub room_tests : ℕ → List Message → List Rule

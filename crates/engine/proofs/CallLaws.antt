@@ -4,18 +4,15 @@
 use mathlib.Core.Path.{◌≡◌, refl, sym, ap, ◌∙◌}
 use mathlib.Core.Logic.{⊎_elim}
 use mathlib.Core.Bool.{Bool, true, false, not, ◌&&◌, ◌||◌, cond, and-false}
-use mathlib.Core.Option.{Option, none, some}
+use Rattle.std.specs.Prelude.{Option, None, Some}
 use mathlib.Core.List.{List, ◌∷◌}
 use Prim.Native.Nat.{ℕ, ◌+◌, ◌-◌, ◌≤◌, ◌<◌}
 use native.Mathlib.Omega.{arith}
-use native.Mathlib.Nat.{mod-eq_of_lt}
-use lib.ListN.{length, get_or, take}
-use lib.Seq.{get_or-take}
-use lib.Dec.{ltb, eqb}
+use lib.ListN.{length}
+use lib.Dec.{ltb}
 use borrow.Author.Tests.{leb-true, ltb-true, le-leb, lt-ltb, le-ltb, not-false}
-use Rattle.predicates.specs.Tests.{every_below, any}
 use Rattle.predicates.proofs.Laws.{impossible, both}
-use Rattle.predicates.proofs.TestLaws.{decided, is_true, below_agree}
+use Rattle.predicates.proofs.TestLaws.{decided, is_true}
 use Rattle.refusal.specs.Code.{Reason, plain}
 use Rattle.refusal.specs.Rules.{Coded, done, no, Rule, ◌when◌, first, unless_refused}
 use Rattle.refusal.proofs.Laws.{cleared}
@@ -23,39 +20,38 @@ use Rattle.serial.specs.Serial.{in_range}
 use Rattle.node.specs.declared.Node.{Node}
 use Rattle.parts.specs.declared.Message.{Message}
 use Rattle.node.specs.Shape.{declared_of, capacity, peer_fits, well_formed as node_is_sound}
-use Rattle.parts.specs.Tests.{is_out}
 use Rattle.node.proofs.ActionLaws.{join-tested, leave-tested}
+use Rattle.node.specs.declared.Outcome.{Outcome}
 use Rattle.node.specs.Actions.{Effect, create_of, join_unchecked, join_of, leave_unchecked, leave_of, act_of, would_grant}
 use Rattle.protocol.specs.declared.Call.{Call}
 use Rattle.protocol.specs.declared.Order.TheVariants.{Declare, Create, Join, Leave}
 use Rattle.protocol.specs.declared.Call.TheVariants.{Order, Deliver}
 use Rattle.protocol.specs.declared.Reply.TheVariants.{Declared}
-use Rattle.protocol.specs.State.{queue_limit, declared, node_at, status_at, key_at, is_notice_to, notice_waits, well_formed as lists_are_well_formed}
-use Rattle.protocol.specs.Calls.{stepped, commit, key_is_taken, declaring, all_out, create_rules, peer_at, join_rules, leave_rules, message_at, without, is_grantable, deliver_rules, receiving, rules_of, effect_of, apply_of as apply_to_lists}
+use Rattle.protocol.specs.State.{queue_limit, declared, node_at, notice_waits, well_formed as lists_are_well_formed}
+use Rattle.protocol.specs.Calls.{stepped, commit, declaring, create_rules, peer_at, join_rules, leave_rules, message_at, without, is_grantable, deliver_rules, receiving, rules_of, effect_of, apply_of as apply_to_lists}
 use Rattle.protocol.specs.Answer.{accepted}
 use Rattle.protocol.proofs.Facts.{WellFormed as ListsWellFormed, well-formed as lists-well-formed}
-use Rattle.protocol.proofs.Waiting.{taken}
+use Rattle.protocol.proofs.Waiting.{taken as message-taken}
 use Rattle.protocol.proofs.Cases.{tested-below, declared-addressee, accepted_case, received as received-acts}
 use Rattle.protocol.proofs.Refusals.{accepted-said, node-sound, peer-sound}
 use Rattle.network.specs.declared.Network.{Network}
-use Rattle.network.specs.Arrays.{vacant_node, vacant_message, live, well_formed, held}
+use Rattle.network.specs.Arrays.{live, well_formed, held}
 use Rattle.network.proofs.Lengths.{Lengths}
 use Rattle.network.proofs.ArrayLaws.{well-formed, held-live}
-use Rattle.network.proofs.LiveLaws.{nodes-length, messages-length, node-live}
+use Rattle.network.proofs.LiveLaws.{nodes-length, messages-length, message-live, node_read}
 use Rattle.access.specs.declared.Arrival.{Arrival}
-use Rattle.access.specs.declared.Change.{Change}
-use Rattle.access.specs.Changes.{placed, added, closed, all_posted, written, committed}
-use Rattle.access.specs.Sights.{node_in, message_in, sight_of, arrival_of}
+use Rattle.access.specs.Changes.{placed, added, closed, all_posted, committed}
+use Rattle.network.specs.Reads.{node_in}
+use Rattle.access.specs.Sights.{sight_of, arrival_of}
 use Rattle.access.proofs.Shift.{length_without}
 use Rattle.access.proofs.Stores.{added-held, closed-held, stepped-held}
 use Rattle.searches.specs.declared.Found.{Found}
-use Rattle.searches.specs.Searches.{least, key_is_taken as key_is_taken_in, some_stands, notice_waits as notice_waits_in}
-use Rattle.decision.specs.declared.Decision.{Decision}
-use Rattle.report.specs.declared.Report.{Report}
-use Rattle.decision.specs.Decided.{Decided, decided as decided_by, spots_of, turned_away, adding, stepping, delivering, after_step, room_tests}
-use Rattle.rules.specs.Decisions.{unless, declare_tests, create_tests, join_step, leave_tests, receive_step, deliver_tests}
+use Rattle.searches.specs.Searches.{key_is_taken as key_is_taken_in, some_stands, notice_waits as notice_waits_in}
+use Rattle.searches.proofs.Searches.{stands, taken}
+use Rattle.decision.specs.Decided.{Decided, spots_of, turned_away, adding, stepping, delivering, after_step, room_tests}
+use Rattle.rules.specs.Decisions.{unless, declare_tests, create_tests, create_checks, join_step, leave_tests, receive_step, deliver_tests, deliver_checks}
 use Rattle.ruling.specs.Rulings.{decision_on}
-use Rattle.engine.specs.Outcomes.{counted, reported, in_arrays, apply_of}
+use Rattle.engine.specs.Outcomes.{counted, refused, in_arrays, apply_of}
 use Rattle.engine.specs.Computed.{outcome}
 use Rattle.engine.proofs.RunLaws.{refused-here}
 use Rattle.engine.proofs.StepLaws.{create_posts, join-says, leave-says, deliver-says}
@@ -63,27 +59,45 @@ use Rattle.engine.proofs.StepLaws.{create_posts, join-says, leave-says, deliver-
 -- ---- tests put together
 -- where the number named is declared the rest says what the rules say, and where it is not they say
 -- 5
-unless-says : (known : Bool) (rest says : Option Reason) → (known ≡ true → rest ≡ says) → (known ≡ false → some (plain 5) ≡ says) → unless known rest ≡ says
+unless-says : (known : Bool) (rest says : Option Reason) → (known ≡ true → rest ≡ says) → (known ≡ false → Some (plain 5) ≡ says) → unless known rest ≡ says
 unless-says true rest says there absent = there refl
 unless-says false rest says there absent = absent refl
 
-unless_known : (known : Bool) (rest : Option Reason) → unless known rest ≡ none → (known ≡ true) × (rest ≡ none)
+unless_known : (known : Bool) (rest : Option Reason) → unless known rest ≡ None → (known ≡ true) × (rest ≡ None)
 unless_known true rest e = (refl, e)
 unless_known false rest e = impossible cc
 
 -- one of three nodes that is not declared
-some_undeclared : (a b c : Bool) (rest : Option Reason) → (a && (b && c)) ≡ false → cond (not a) (some (plain 5)) (cond (not b) (some (plain 5)) (cond (not c) (some (plain 5)) rest)) ≡ some (plain 5)
+some_undeclared : (a b c : Bool) (rest : Option Reason) → (a && (b && c)) ≡ false → cond (not a) (Some (plain 5)) (cond (not b) (Some (plain 5)) (cond (not c) (Some (plain 5)) rest)) ≡ Some (plain 5)
 some_undeclared false b c rest e = refl
 some_undeclared true false c rest e = refl
 some_undeclared true true false rest e = refl
 some_undeclared true true true rest e = impossible (sym e)
 
-room-cleared : (waiting : ℕ) (posts : List Message) → first (room_tests waiting posts) ≡ none → waiting + length posts ≤ queue_limit
+room-cleared : (waiting : ℕ) (posts : List Message) → first (room_tests waiting posts) ≡ None → waiting + length posts ≤ queue_limit
 room-cleared waiting posts clear = leb-true _ _ (not-false _ (cleared (room_tests waiting posts) clear).0)
 
-after-cleared : {A : Type 0} (said : Coded A) (rest : Option Reason) → after_step said rest ≡ none → rest ≡ none
+after-cleared : {A : Type 0} (said : Coded A) (rest : Option Reason) → after_step said rest ≡ None → rest ≡ None
 after-cleared (done a) rest e = e
 after-cleared (no r) rest e = impossible cc
+
+-- after the rules a step that is not refused refuses nothing more
+step-agrees : {A : Type 0} (said : Coded A) (o says : Option Reason) → o ≡ says → (says ≡ None → after_step said None ≡ None) → unless_refused o Some (after_step said None) ≡ says
+step-agrees said None says e accepts = accepts (sym e) ∙ e
+step-agrees said (Some r) says e accepts = e
+
+accepted-step : (said : Coded Outcome) → accepted (stepped said) ≡ true → after_step said None ≡ None
+accepted-step (done o) e = refl
+accepted-step (no r) e = impossible e
+
+tests-cleared : (o rest : Option Reason) → unless_refused o Some rest ≡ None → o ≡ None
+tests-cleared None rest e = refl
+tests-cleared (Some r) rest e = impossible cc
+
+-- a refusal leaves the network as it was
+pub nothing-written : (n : Network) (r : Reason) → counted (refused n r) ≡ outcome n (turned_away r)
+unfolding committed
+nothing-written n r = refl
 
 -- ---- a well-formed network
 module _ (n : Network) (l : Lengths n) (h : well_formed n ≡ true) where
@@ -111,47 +125,13 @@ module _ (n : Network) (l : Lengths n) (h : well_formed n ≡ true) where
   declared-read : (u : ℕ) → ltb u n.count ≡ declared (live n) u
   declared-read u = ap (ltb u) (sym (nodes-length n l h))
 
-  -- ---- what is read out of the arrays stands in the lists
-  pub node_read : (u : ℕ) → u < n.count → node_in n u ≡ node_at (live n) u
-  node_read u k =
-      let small : u < capacity = omega (arith, few_nodes) in
-      ap (λ i. get_or n.nodes i vacant_node) (mod-eq_of_lt small) ∙ sym (node-live n l h u vacant_node k)
-
-  message_read : (i : ℕ) → i < n.waiting → message_in n i ≡ message_at (live n) i
-  message_read i k =
-      let small : i < queue_limit = omega (arith, few_messages) in
-      ap (λ j. get_or n.messages j vacant_message) (mod-eq_of_lt small) ∙ sym (get_or-take n.waiting n.messages i vacant_message k)
-
   waits : (i : ℕ) → i < n.waiting → i < length (live n).messages
   waits i k = omega (arith, messages-length n l h)
 
   addressee : (i : ℕ) → i < n.waiting → (message_at (live n) i).to < n.count
   addressee i k =
-      let there = (taken (live n) i (waits i k)).waits in
+      let there = (message-taken (live n) i (waits i k)).waits in
       omega (arith, nodes-length n l h, declared-addressee (live n) lists (message_at (live n) i) there)
-
-  all-nodes : least n.count capacity ≡ n.count
-  all-nodes = rw (le-leb n.count capacity few_nodes)
-
-  all-messages : least n.waiting queue_limit ≡ n.waiting
-  all-messages = rw (le-leb n.waiting queue_limit few_messages)
-
-  taken-read : (key : ℕ) → key_is_taken_in n key ≡ key_is_taken (live n) key
-  taken-read key =
-      ap not
-      (ap (λ k. every_below k (λ u. not (eqb (get_or n.nodes u vacant_node).key key))) all-nodes
-      ∙ below_agree n.count _ _ (λ u k. ap (λ (node : Node). not (eqb node.key key)) (sym (node-live n l h u vacant_node k)))
-      ∙ ap (λ k. every_below k (λ u. not (eqb (key_at (live n) u) key))) (sym (nodes-length n l h)))
-
-  standing-read : some_stands n ≡ not (all_out (live n))
-  standing-read =
-      ap not
-      (ap (λ k. every_below k (λ u. is_out (get_or n.nodes u vacant_node).status)) all-nodes
-      ∙ below_agree n.count _ _ (λ u k. ap (λ (node : Node). is_out node.status) (sym (node-live n l h u vacant_node k)))
-      ∙ ap (λ k. every_below k (λ u. is_out (status_at (live n) u))) (sym (nodes-length n l h)))
-
-  notice-read : (u : ℕ) → notice_waits_in n u ≡ notice_waits (live n) u
-  notice-read u = ap (λ k. any (is_notice_to u) (take k n.messages)) all-messages
 
   -- ---- what is written are the lists so changed
   steps-outcome : (u : ℕ) (e : Effect) → u < n.count → n.waiting + length e.posts ≤ queue_limit
@@ -190,45 +170,57 @@ module _ (n : Network) (l : Lengths n) (h : well_formed n ≡ true) where
 
   -- ---- tests that say what the rules say decide the call
   as-ruled : (call : Call) (o : Option Reason) (accepted : Decided) → o ≡ first (rules_of (live n) call)
-      → (o ≡ none → outcome n accepted ≡ counted (in_arrays (effect_of (live n) call))) → outcome n (unless_refused o turned_away accepted) ≡ counted (apply_of n call)
+      → (o ≡ None → outcome n accepted ≡ counted (in_arrays (effect_of (live n) call))) → outcome n (unless_refused o turned_away accepted) ≡ counted (apply_of n call)
   unfolding apply_of apply_to_lists committed
-  as-ruled call none accepted says carried = carried refl ∙ rw (h, sym says)
-  as-ruled call (some r) accepted says carried = ap counted (sym (refused-here n l call r h (rw (sym says))))
+  as-ruled call None accepted says carried = carried refl ∙ rw (h, sym says)
+  as-ruled call (Some r) accepted says carried = ap counted (sym (refused-here n l call r h (rw (sym says))))
 
   -- ---- each call
   decides-declare : (key : ℕ) → outcome n (decision_on n (Order (Declare key))) ≡ counted (apply_of n (Order (Declare key)))
   unfolding decision_on
   decides-declare key =
       as-ruled (Order (Declare key)) (first (declare_tests key n.count (key_is_taken_in n key))) (adding n.count key)
-      (rw lists-tested (λ i. cond (not (in_range key)) (some (plain 4)) (cond (not (ltb (sym (nodes-length n l h) i) capacity)) (some (plain 20)) (cond (taken-read key i) (some (plain 21)) none))))
+      (rw lists-tested (λ i. cond (not (in_range key)) (Some (plain 4)) (cond (not (ltb (sym (nodes-length n l h) i) capacity)) (Some (plain 20)) (cond (taken n key i) (Some (plain 21)) None))))
       (λ clear. let (_, (room, _)) = cleared (declare_tests key n.count (key_is_taken_in n key)) clear in adds-outcome key (tested-below n.count capacity room))
 
-  decides-create : (u : ℕ) → outcome n (decision_on n (Order (Create u))) ≡ counted (apply_of n (Order (Create u)))
-  unfolding decision_on
-  decides-create u =
-      let found : Found = record { taken = false; standing = some_stands n; notice = notice_waits_in n u } in
-      as-ruled (Order (Create u)) (unless (ltb u n.count) (first (create_tests found))) (stepping u (create_of u (node_in n u)))
-      (unless-says (ltb u n.count) (first (create_tests found)) (first (create_rules (live n) u)) says absent)
-      (λ clear.
-      let here = ltb-true u n.count (unless_known (ltb u n.count) (first (create_tests found)) clear).0 in
-      steps-outcome u (create_of u (node_in n u)) here (omega (arith, create_posts u (node_in n u), few_messages))
-      ∙ ap (λ (node : Node). counted (in_arrays (commit (live n) u (live n).messages (create_of u node)))) (node_read u here))
-    where
-      says : ltb u n.count ≡ true → first (create_tests (record { taken = false; standing = some_stands n; notice = notice_waits_in n u })) ≡ first (create_rules (live n) u)
-      says t = rw (lists-tested, known u (ltb-true u n.count t)) (λ i. cond (standing-read i) (some (plain 22)) (cond (notice-read u i) (some (plain 25)) none))
+  module _ (u : ℕ) where
+    abbrev found : Found
+    found = record { taken = false; standing = some_stands n; notice = notice_waits_in n u }
 
-      absent : ltb u n.count ≡ false → some (plain 5) ≡ first (create_rules (live n) u)
-      absent f = simp (lists-tested, sym (declared-read u) ∙ f)
+    abbrev made : Effect
+    made = create_of u (node_in n u)
+
+    create-tests : create_checks u n.count (node_in n u) found ≡ first (create_rules (live n) u)
+    create-tests = unless-says (ltb u n.count) _ _ says absent
+      where
+        says : ltb u n.count ≡ true → unless_refused (first (create_tests found)) Some (after_step made.said None) ≡ first (create_rules (live n) u)
+        says t =
+            let here = ltb-true u n.count t in
+            step-agrees made.said (first (create_tests found)) (first (create_rules (live n) u))
+            (rw (lists-tested, known u here) (λ i. cond (stands n i) (Some (plain 22)) (cond (notice_waits (live n) u) (Some (plain 25)) None)))
+            (λ clear. (λ i. after_step (create_of u (node_read n l h u here i)).said None) ∙ accepted-step _ (is_true _ (accepted-said (accepted_case (live n) (Order (Create u)) clear))))
+
+        absent : ltb u n.count ≡ false → Some (plain 5) ≡ first (create_rules (live n) u)
+        absent f = simp (lists-tested, sym (declared-read u) ∙ f)
+
+    decides-create : outcome n (decision_on n (Order (Create u))) ≡ counted (apply_of n (Order (Create u)))
+    unfolding decision_on
+    decides-create =
+        as-ruled (Order (Create u)) (create_checks u n.count (node_in n u) found) (stepping u made) create-tests
+        (λ clear.
+        let here = ltb-true u n.count (unless_known (ltb u n.count) _ clear).0 in
+        steps-outcome u made here (omega (arith, create_posts u (node_in n u), few_messages))
+        ∙ ap (λ (node : Node). counted (in_arrays (commit (live n) u (live n).messages (create_of u node)))) (node_read n l h u here))
 
   -- the step of a join is that of the list's nodes
   join-read : (u p q : ℕ) → u < n.count → p < n.count → q < n.count
       → join_step u p q (sight_of n (spots_of (Join u p q))) ≡ join_of u (node_at (live n) u) (peer_at (live n) p) (peer_at (live n) q)
   join-read u p q here left right =
       let neighbour : (v : ℕ) → v < n.count → record { number = v; key = (node_in n v).key } ≡ peer_at (live n) v =
-      λ v k. ap (λ (node : Node). record { number = v; key = node.key }) (node_read v k) in
+      λ v k. ap (λ (node : Node). record { number = v; key = node.key }) (node_read n l h v k) in
       let sound : not (node_is_sound u (node_at (live n) u) && (peer_fits (peer_at (live n) p) && peer_fits (peer_at (live n) q))) ≡ false =
       rw (node-sound (live n) lists u (ap not (known u here)), peer-sound (live n) lists p (ap not (known p left)), peer-sound (live n) lists q (ap not (known q right))) in
-      (λ i. join_unchecked u (node_read u here i) (neighbour p left i) (neighbour q right i)) ∙ join-tested u (node_at (live n) u) (peer_at (live n) p) (peer_at (live n) q) sound
+      (λ i. join_unchecked u (node_read n l h u here i) (neighbour p left i) (neighbour q right i)) ∙ join-tested u (node_at (live n) u) (peer_at (live n) p) (peer_at (live n) q) sound
 
   module _ (u p q : ℕ) where
     abbrev joined : Effect
@@ -252,10 +244,10 @@ module _ (n : Network) (l : Lengths n) (h : well_formed n ≡ true) where
         says : all_known ≡ true → after_step joined.said (first rest) ≡ first (join_rules (live n) u p q)
         says t =
             let (here, left, right) = three t in
-            (λ i. after_step (join-read u p q here left right i).said (first ((25 when notice-read u i) ∷ room_tests (sym (messages-length n l h) i) (join-read u p q here left right i).posts)))
+            (λ i. after_step (join-read u p q here left right i).said (first ((25 when notice_waits (live n) u) ∷ room_tests (sym (messages-length n l h) i) (join-read u p q here left right i).posts)))
             ∙ join-says (live n) lists u p q (known u here) (known p left) (known q right)
 
-        absent : all_known ≡ false → some (plain 5) ≡ first (join_rules (live n) u p q)
+        absent : all_known ≡ false → Some (plain 5) ≡ first (join_rules (live n) u p q)
         absent f = sym (rw lists-tested (some_undeclared (declared (live n) u) (declared (live n) p) (declared (live n) q) _ (rw (sym (nodes-length n l h)) at f)))
 
     decides-join : outcome n (decision_on n (Order (Join u p q))) ≡ counted (apply_of n (Order (Join u p q)))
@@ -283,11 +275,11 @@ module _ (n : Network) (l : Lengths n) (h : well_formed n ≡ true) where
         says : ltb u n.count ≡ true → after_step left.said (first (room_tests n.waiting left.posts)) ≡ first (leave_rules (live n) u)
         says t =
             let here = ltb-true u n.count t in
-            (λ i. after_step (leave_unchecked u (node_read u here i)).said (first (room_tests (sym (messages-length n l h) i) (leave_unchecked u (node_read u here i)).posts)))
+            (λ i. after_step (leave_unchecked u (node_read n l h u here i)).said (first (room_tests (sym (messages-length n l h) i) (leave_unchecked u (node_read n l h u here i)).posts)))
             ∙ (λ i. after_step (leave-read here i).said (first (room_tests (length (live n).messages) (leave-read here i).posts)))
             ∙ leave-says (live n) lists u (known u here)
 
-        absent : ltb u n.count ≡ false → some (plain 5) ≡ first (leave_rules (live n) u)
+        absent : ltb u n.count ≡ false → Some (plain 5) ≡ first (leave_rules (live n) u)
         absent f = simp (lists-tested, sym (declared-read u) ∙ f)
 
     decides-leave : outcome n (decision_on n (Order (Leave u))) ≡ counted (apply_of n (Order (Leave u)))
@@ -298,7 +290,7 @@ module _ (n : Network) (l : Lengths n) (h : well_formed n ≡ true) where
         let (t, after) = unless_known (ltb u n.count) (after_step left.said (first (room_tests n.waiting left.posts))) clear in
         let here = ltb-true u n.count t in
         steps-outcome u left here (room-cleared n.waiting left.posts (after-cleared left.said (first (room_tests n.waiting left.posts)) after))
-        ∙ ap (λ (node : Node). counted (in_arrays (commit (live n) u (live n).messages (leave_unchecked u node)))) (node_read u here)
+        ∙ ap (λ (node : Node). counted (in_arrays (commit (live n) u (live n).messages (leave_unchecked u node)))) (node_read n l h u here)
         ∙ ap (λ (e : Effect). counted (in_arrays (commit (live n) u (live n).messages e))) (leave-read here))
 
   module _ (place : ℕ) where
@@ -312,20 +304,22 @@ module _ (n : Network) (l : Lengths n) (h : well_formed n ≡ true) where
     -- with are passed
     received-read : place < n.waiting → received ≡ receiving (live n) (message_at (live n) place)
     received-read there =
-        ap (λ (m : Message). act_of m.to (node_in n m.to) m.sender m.kind) (message_read place there)
-        ∙ ap (λ (node : Node). act_of (message_at (live n) place).to node (message_at (live n) place).sender (message_at (live n) place).kind) (node_read (message_at (live n) place).to (addressee place there))
-        ∙ sym (received-acts (live n) lists (message_at (live n) place) (taken (live n) place (waits place there)).waits)
+        ap (λ (m : Message). act_of m.to (node_in n m.to) m.sender m.kind) (message-live n l h place there)
+        ∙ ap (λ (node : Node). act_of (message_at (live n) place).to node (message_at (live n) place).sender (message_at (live n) place).kind) (node_read n l h (message_at (live n) place).to (addressee place there))
+        ∙ sym (received-acts (live n) lists (message_at (live n) place) (message-taken (live n) place (waits place there)).waits)
 
-    deliver-tests : first (deliver_tests place arrival) ≡ first (deliver_rules (live n) place)
+    deliver-tests : deliver_checks place arrival ≡ first (deliver_rules (live n) place)
     deliver-tests = ⊎_elim present absent (decided (ltb place n.waiting))
       where
-        present : ltb place n.waiting ≡ true → first (deliver_tests place arrival) ≡ first (deliver_rules (live n) place)
+        present : ltb place n.waiting ≡ true → deliver_checks place arrival ≡ first (deliver_rules (live n) place)
         present t =
             let there = ltb-true place n.waiting t in
-            rw t
-            ((λ i. first (room_tests (sym (messages-length n l h) i - 1) (received-read there i).posts)) ∙ deliver-says (live n) lists place (waits place there))
+            step-agrees received.said (first (deliver_tests place arrival)) (first (deliver_rules (live n) place))
+            (rw t
+            ((λ i. first (room_tests (sym (messages-length n l h) i - 1) (received-read there i).posts)) ∙ deliver-says (live n) lists place (waits place there)))
+            (λ clear. (λ i. after_step (received-read there i).said None) ∙ accepted-step _ (is_true _ (accepted-said (accepted_case (live n) (Deliver place) clear))))
 
-        absent : ltb place n.waiting ≡ false → first (deliver_tests place arrival) ≡ first (deliver_rules (live n) place)
+        absent : ltb place n.waiting ≡ false → deliver_checks place arrival ≡ first (deliver_rules (live n) place)
         absent f =
             let gone : ltb place (length (live n).messages) ≡ false = ap (ltb place) (messages-length n l h) ∙ f in
             rw f (sym (simp (lists-tested, gone, and-false)))
@@ -333,11 +327,11 @@ module _ (n : Network) (l : Lengths n) (h : well_formed n ≡ true) where
     decides-deliver : outcome n (decision_on n (Deliver place)) ≡ counted (apply_of n (Deliver place))
     unfolding decision_on
     decides-deliver =
-        as-ruled (Deliver place) (first (deliver_tests place arrival)) (delivering place arrival.message.to received) deliver-tests
+        as-ruled (Deliver place) (deliver_checks place arrival) (delivering place arrival.message.to received) deliver-tests
         (λ clear.
-        let (waiting, (room, _)) = cleared (deliver_tests place arrival) clear in
+        let (waiting, (room, _)) = cleared (deliver_tests place arrival) (tests-cleared _ _ clear) in
         let there = tested-below place n.waiting waiting in
-        let to : arrival.message.to ≡ (message_at (live n) place).to = ap (λ (m : Message). m.to) (message_read place there) in
+        let to : arrival.message.to ≡ (message_at (live n) place).to = ap (λ (m : Message). m.to) (message-live n l h place there) in
         delivers-outcome place arrival.message.to received there (rw to (addressee place there)) (leb-true _ _ (not-false _ room))
         ∙ (λ i. counted (in_arrays (commit (live n) (to i) (without place (live n).messages) (received-read there i)))))
 
@@ -349,11 +343,6 @@ module _ (n : Network) (l : Lengths n) (h : well_formed n ≡ true) where
   decides (Order (Leave u)) = decides-leave u
   decides (Deliver place) = decides-deliver place
 
-  -- the change of a decision carried out, and its report
-  pub acted : (call : Call) (d : Decision) (x : Change) (r : Report) → decided_by d ≡ decision_on n call → x ≡ d.change → r ≡ d.report
-      → reported (committed n (written x)) r ≡ counted (apply_of n call)
-  acted call d x r says at tells = (λ i. reported (committed n (written (at i))) (tells i)) ∙ ap (outcome n) says ∙ decides call
-
   -- ---- a delivery where a message waits is refused only where the queue is full and the message
   -- would be granted
   module _ (place : ℕ) (there : place < n.waiting) where
@@ -362,10 +351,10 @@ module _ (n : Network) (l : Lengths n) (h : well_formed n ≡ true) where
 
     grantable-read : grantable ≡ is_grantable (live n) place
     grantable-read =
-        ap (λ (m : Message). would_grant (node_in n m.to) m.sender m.kind) (message_read place there)
-        ∙ ap (λ (node : Node). would_grant node (message_at (live n) place).sender (message_at (live n) place).kind) (node_read (message_at (live n) place).to (addressee place there))
+        ap (λ (m : Message). would_grant (node_in n m.to) m.sender m.kind) (message-live n l h place there)
+        ∙ ap (λ (node : Node). would_grant node (message_at (live n) place).sender (message_at (live n) place).kind) (node_read n l h (message_at (live n) place).to (addressee place there))
 
-    rules-read : first (deliver_rules (live n) place) ≡ cond (not (ltb n.waiting queue_limit) && grantable) (some (plain 28)) none
+    rules-read : first (deliver_rules (live n) place) ≡ cond (not (ltb n.waiting queue_limit) && grantable) (Some (plain 28)) None
     rules-read =
         let present : ltb place (length (live n).messages) ≡ true = lt-ltb place (length (live n).messages) (waits place there) in
         rw (lists-tested, present, sym grantable-read, messages-length n l h)
@@ -374,13 +363,13 @@ module _ (n : Network) (l : Lengths n) (h : well_formed n ≡ true) where
     unfolding apply_to_lists
     delivers-here = go (ltb n.waiting queue_limit) grantable rules-read
       where
-        clear : first (deliver_rules (live n) place) ≡ none → true ≡ accepted (apply_to_lists (live n) (Deliver place)).said
+        clear : first (deliver_rules (live n) place) ≡ None → true ≡ accepted (apply_to_lists (live n) (Deliver place)).said
         clear e = sym (rw e (is_true _ (accepted-said (accepted_case (live n) (Deliver place) e))))
 
-        barred : first (deliver_rules (live n) place) ≡ some (plain 28) → false ≡ accepted (apply_to_lists (live n) (Deliver place)).said
+        barred : first (deliver_rules (live n) place) ≡ Some (plain 28) → false ≡ accepted (apply_to_lists (live n) (Deliver place)).said
         barred e = rw e
 
-        go : (room grants : Bool) → first (deliver_rules (live n) place) ≡ cond (not room && grants) (some (plain 28)) none → (room || not grants) ≡ accepted (apply_to_lists (live n) (Deliver place)).said
+        go : (room grants : Bool) → first (deliver_rules (live n) place) ≡ cond (not room && grants) (Some (plain 28)) None → (room || not grants) ≡ accepted (apply_to_lists (live n) (Deliver place)).said
         go true grants e = clear e
         go false true e = barred e
         go false false e = clear e

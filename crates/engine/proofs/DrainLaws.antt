@@ -5,7 +5,7 @@ use mathlib.Core.Path.{◌≡◌, refl, sym, ap, ◌∙◌}
 use mathlib.Core.Logic.{⊎_elim, ◌≢◌}
 use mathlib.Core.Bool.{Bool, true, false, cond, ◌&&◌}
 use mathlib.Core.List.{List, [], ◌∷◌}
-use mathlib.Core.Option.{none, some}
+use Rattle.std.specs.Prelude.{None, Some}
 use Prim.Native.Nat.{ℕ, zero, suc, ◌+◌, ◌*◌, ◌-◌, ◌^◌, ◌≤◌, ◌<◌}
 use native.Mathlib.Omega.{arith}
 use lib.ListN.{length, length-append, length-replicate}
@@ -47,17 +47,17 @@ held-lengths s h =
 
 -- ---- where a delivery is to be had
 -- while the queue is not full no delivery is refused, and so none at the first place
-pub first-is-lowest : (n : Network) (l : Lengths n) (h : well_formed n ≡ true) → 0 < n.waiting → n.waiting < queue_limit → lowest (live n) ≡ some 0
+pub first-is-lowest : (n : Network) (l : Lengths n) (h : well_formed n ≡ true) → 0 < n.waiting → n.waiting < queue_limit → lowest (live n) ≡ Some 0
 unfolding apply_to_lists
 first-is-lowest n l h waits few =
     let all = messages-length n l h in
     let room : ltb (length (live n).messages) queue_limit ≡ true = lt-ltb (length (live n).messages) queue_limit (omega (arith, all)) in
     let present : ltb 0 (length (live n).messages) ≡ true = lt-ltb 0 (length (live n).messages) (omega (arith, all)) in
-    let clear : first (deliver_rules (live n) 0) ≡ none = simp ((well-formed n h).lists, room, present) in
+    let clear : first (deliver_rules (live n) 0) ≡ None = simp ((well-formed n h).lists, room, present) in
     lowest-at (live n) 0 (omega (arith, all)) (λ q k. absurd (omega arith)) (rw clear (is_true _ (accepted-said (accepted_case (live n) (Deliver 0) clear))))
 
 -- where a message waits the search for the lowest place ends at one
-ends_somewhere : (s : State) (k from q : ℕ) → from ≤ q → q < from + k → can_deliver s q ≡ true → lowest_from s from k ≡ some (place_of (lowest_from s from k))
+ends_somewhere : (s : State) (k from q : ℕ) → from ≤ q → q < from + k → can_deliver s q ≡ true → lowest_from s from k ≡ Some (place_of (lowest_from s from k))
 ends_somewhere s zero from q above below can = absurd (omega arith)
 ends_somewhere s (suc k) from q above below can =
     ⊎_elim (λ t. rw t) (λ f. rw f (ends_somewhere s k (suc from) q (past f) (omega arith) can)) (decided (can_deliver s from))
@@ -65,7 +65,7 @@ ends_somewhere s (suc k) from q above below can =
     past : can_deliver s from ≡ false → from < q
     past refused = let other : from ≢ q = λ e. not-both (ap (can_deliver s) e ∙ can) refused in omega arith
 
-next_place : (n : Network) → Lengths n → well_formed n ≡ true → 0 < n.waiting → lowest (live n) ≡ some (place_of (lowest (live n)))
+next_place : (n : Network) → Lengths n → well_formed n ≡ true → 0 < n.waiting → lowest (live n) ≡ Some (place_of (lowest (live n)))
 next_place n l h waits =
     let (q, there, can) = some-lowest (live n) (holds (well-formed n h).lists) (omega (arith, messages-length n l h)) in
     ends_somewhere (live n) (length (live n).messages) 0 q (omega arith) (omega arith) (is_true _ can)
@@ -78,16 +78,16 @@ module _ (n : Network) (l : Lengths n) (h : well_formed n ≡ true) where
       ⊎_elim (λ t. there t ∙ sym (here t)) (λ f. there f ∙ same-search (suc place) k (omega arith) ∙ sym (here f)) (decided (can_deliver (live n) place))
     where
       there : {b : Bool} → can_deliver (live n) place ≡ b
-          → place_of (lowest_from (live n) place (suc k)) ≡ place_of (cond b (some place) (lowest_from (live n) (suc place) k))
-      there e = ap (λ b. place_of (cond b (some place) (lowest_from (live n) (suc place) k))) e
+          → place_of (lowest_from (live n) place (suc k)) ≡ place_of (cond b (Some place) (lowest_from (live n) (suc place) k))
+      there e = ap (λ b. place_of (cond b (Some place) (lowest_from (live n) (suc place) k))) e
 
       here : {b : Bool} → can_deliver (live n) place ≡ b → lowest_place_from n place (suc k) ≡ cond b place (lowest_place_from n (suc place) k)
       here e = ap (λ b. cond b place (lowest_place_from n (suc place) k)) (delivers-here n l h place (omega arith) ∙ e)
 
-  pub lowest-is : 0 < n.waiting → lowest (live n) ≡ some (lowest_place n)
+  pub lowest-is : 0 < n.waiting → lowest (live n) ≡ Some (lowest_place n)
   lowest-is waits =
       let all = messages-length n l h in
-      next_place n l h waits ∙ ap some (ap (λ k. place_of (lowest_from (live n) 0 k)) all ∙ same-search 0 n.waiting (omega arith))
+      next_place n l h waits ∙ ap Some (ap (λ k. place_of (lowest_from (live n) 0 k)) all ∙ same-search 0 n.waiting (omega arith))
 
 -- ---- a drain that has made some of its deliveries
 pub record Underway (start : Network) (budget : ℕ) (n : Network) (made posted : ℕ) : Type 0 where
@@ -106,11 +106,7 @@ begins n budget l h =
 
 module _ {start : Network} {budget : ℕ} {n : Network} {made posted : ℕ} (u : Underway start budget n made posted) where
   -- one delivery more, which is of a few messages
-  -- the place that the code finds, while the drain goes on
-  pub chosen : (place : ℕ) → (ltb made budget && ltb 0 n.waiting) ≡ true → place ≡ lowest_place n → lowest (live n) ≡ some place
-  chosen place goes e = lowest-is n u.arrays u.well_formed (ltb-true 0 n.waiting (both (ltb made budget) _ goes).1) ∙ ap some (sym e)
-
-  module _ (place : ℕ) (x : Counted) (goes : (ltb made budget && ltb 0 n.waiting) ≡ true) (at : lowest (live n) ≡ some place) (e : x ≡ counted (apply_of n (Deliver place))) where
+  module _ (place : ℕ) (x : Counted) (goes : (ltb made budget && ltb 0 n.waiting) ≡ true) (at : lowest (live n) ≡ Some place) (e : x ≡ counted (apply_of n (Deliver place))) where
     next : State
     next = after_delivery (live n) place
 
@@ -148,7 +144,7 @@ module _ {start : Network} {budget : ℕ} {n : Network} {made posted : ℕ} (u :
 
   -- the next delivery, and what it comes to
   module _ (x : Counted) (goes : (ltb made budget && ltb 0 n.waiting) ≡ true) (e : x ≡ counted (next_delivery n)) where
-    place : lowest (live n) ≡ some (place_of (lowest (live n)))
+    place : lowest (live n) ≡ Some (place_of (lowest (live n)))
     place = next_place n u.arrays u.well_formed (ltb-true 0 n.waiting (both (ltb made budget) _ goes).1)
 
     pub next_fits : budget < 2 ^ 16 → (made < 65_535) × (posted + x.posted < 4_294_967_296)

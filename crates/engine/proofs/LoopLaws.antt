@@ -7,7 +7,7 @@ use Prim.Native.Nat.{ℕ, ◌+◌, ◌*◌, ◌-◌, ◌≤◌, ◌<◌}
 use native.Mathlib.Omega.{arith}
 use native.Mathlib.Nat.{sub-add_cancel}
 use native.Mathlib.Numerals.{add-one}
-use lib.ListN.{length, take}
+use lib.ListN.{length}
 use borrow.Author.Tests.{lt-ltb, le-ltb}
 use Rattle.protocol.specs.State.{well_formed as lists_are_well_formed, empty as empty_lists}
 use Rattle.network.specs.Arrays.{well_formed, empty}
@@ -27,22 +27,21 @@ pub record Turn (script : List ℕ) (x : State) : Type 0 where
   pub sound : well_formed x.kept.network ≡ true
   pub within : Within script (far x)
   pub come : far x ≡ after script x.progress.ordinal
-  pub short : x.progress.used ≤ 40 + 40 * x.progress.ordinal
+  pub short : length x.text ≤ 40 + 40 * x.progress.ordinal
 
 -- ---- before the first record
-abbrev pub begun : ℕ → Progress
-begun used = record { at = 0; ordinal = 0; posted = 0; used = used }
+abbrev pub begun : Progress
+begun = record { at = 0; ordinal = 0; posted = 0 }
 
-pub first-turn : (script text : List ℕ) (k : Kept) (used : ℕ) → k.network ≡ empty → take used text ≡ heading → used ≤ 40
-    → Turn script (record { kept = k; text = text; progress = begun used })
+pub first-turn : (script text : List ℕ) (k : Kept) → k.network ≡ empty → text ≡ heading → Turn script (record { kept = k; text = text; progress = begun })
 unfolding lists_are_well_formed
-first-turn script text k used e printed few =
-    let here : reached k.network (begun used) text ≡ start = rw (e, printed, live-held empty_lists) in
+first-turn script text k e printed =
+    let here : reached k.network begun text ≡ start = rw (e, printed, live-held empty_lists) in
     record {
       sound = rw e (held_well_formed empty_lists refl);
       within = rw here record { sound = tt; inside = omega arith; records = λ l. omega arith; few = omega arith; posts = omega arith };
       come = here;
-      short = omega arith;
+      short = omega (arith, ap length printed);
     }
 
 -- ---- at any turn over a script within the limit
@@ -50,7 +49,7 @@ module _ (script : List ℕ) (x : State) (t : Turn script x) (size : length scri
   few-records : x.progress.ordinal ≤ 21_846
   few-records = omega (arith, t.within.few, t.within.inside)
 
-  pub room : x.progress.used + 40 ≤ 1_000_000 - 40
+  pub room : length x.text + 40 ≤ 1_000_000
   room = omega (arith, few-records, t.short)
 
   pub may-step : x.progress.at < length script → MayStep script x
@@ -82,12 +81,9 @@ module _ (script : List ℕ) (x : State) (t : Turn script x) (size : length scri
       let there : length script ≤ (after script x.progress.ordinal).at = rw (ap (λ (r : Reached). r.at) (sym t.come)) past in
       ap (after script) (sym (sub-add_cancel fewer)) ∙ ended-after script x.progress.ordinal (length script - x.progress.ordinal) there ∙ sym t.come
 
-  pub whole-printout : Lengths x.kept.network → length script ≤ x.progress.at → (text' : List ℕ) (r : ℕ) → take r text' ≡ take x.progress.used x.text ++ last_line x.kept.network.waiting x.progress.posted
-      → take r text' ≡ closed (after script (length script))
-  whole-printout l past text' r printed =
-      printed
-      ∙ ap (λ (waiting : ℕ). take x.progress.used x.text ++ last_line waiting x.progress.posted) (sym (messages-length x.kept.network l t.sound))
-      ∙ ap closed (sym (all-records past))
+  pub whole-printout : Lengths x.kept.network → length script ≤ x.progress.at → x.text ++ last_line x.kept.network.waiting x.progress.posted ≡ closed (after script (length script))
+  whole-printout l past =
+      ap (λ (waiting : ℕ). x.text ++ last_line waiting x.progress.posted) (sym (messages-length x.kept.network l t.sound)) ∙ ap closed (sym (all-records past))
 
 -- ---- by the size of the script
 module _ (script : List ℕ) where

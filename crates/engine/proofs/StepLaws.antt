@@ -5,7 +5,7 @@ use mathlib.Core.Path.{◌≡◌, refl, sym, ap, ◌∙◌}
 use mathlib.Core.Logic.{⊎_elim}
 use mathlib.Core.Bool.{Bool, true, false, not, ◌&&◌, cond, and-true, and-false}
 use mathlib.Core.List.{List, [], ◌∷◌, ◌++◌}
-use mathlib.Core.Option.{Option, none, some}
+use Rattle.std.specs.Prelude.{Option, None, Some}
 use Prim.Native.Nat.{ℕ, suc, ◌+◌, ◌-◌, ◌≤◌, ◌<◌}
 use native.Mathlib.Omega.{arith}
 use lib.ListN.{length}
@@ -56,8 +56,8 @@ unfolding create_of
 create_posts me u = go (first (create_rules me u))
   where
     go : (o : Option Reason) → length (unless_refused o (refused u) (creating me u)).posts ≡ 0
-    go none = refl
-    go (some n) = refl
+    go None = refl
+    go (Some n) = refl
 
 module _ (u : Node) where
   ack-posts : (status : Status) (n : ℕ) → length (on_set_r_ack status u n).posts ≤ 1
@@ -81,18 +81,18 @@ full-by-one n = let e : n + 1 ≡ suc n = omega arith in rw e
 -- rest is what the rules name, and what the code tests instead agrees with it where the step's own
 -- rules let it pass
 after-own : (rules rest : List Rule) (u : Node) (accepted : Effect) (o : Outcome) (tested : Option Reason) → accepted.said ≡ done o
-    → (first rules ≡ none → tested ≡ first rest) → after_step (ruled rules (refused u) accepted).said tested ≡ first (rules ++ rest)
+    → (first rules ≡ None → tested ≡ first rest) → after_step (ruled rules (refused u) accepted).said tested ≡ first (rules ++ rest)
 after-own rules rest u accepted o tested says agrees = go (first rules) refl ∙ sym (first_append rules rest)
   where
-    go : (f : Option Reason) → first rules ≡ f → after_step (unless_refused f (refused u) accepted).said tested ≡ unless_refused f some (first rest)
-    go none e = rw says (agrees e)
-    go (some n) e = refl
+    go : (f : Option Reason) → first rules ≡ f → after_step (unless_refused f (refused u) accepted).said tested ≡ unless_refused f Some (first rest)
+    go None e = rw says (agrees e)
+    go (Some n) e = refl
 
 -- the posts of a join that its own rules let pass, and of a leave
-joined_posts : (me : ℕ) (u : Node) (p q : Peer) → first (join_rules me u p q) ≡ none → length (join_of me u p q).posts ≡ 1
+joined_posts : (me : ℕ) (u : Node) (p q : Peer) → first (join_rules me u p q) ≡ None → length (join_of me u p q).posts ≡ 1
 joined_posts me u p q clear = ap (λ (e : Effect). length e.posts) (join-accepted me u p q (cleared (join_rules me u p q) clear))
 
-module _ (me : ℕ) (u : Node) (clear : first (leave_rules me u) ≡ none) where
+module _ (me : ℕ) (u : Node) (clear : first (leave_rules me u) ≡ None) where
   alone-posts : alone me u ≡ true → length (leave_of me u).posts ≡ 0
   alone-posts e = ap (λ (e : Effect). length e.posts) (leave-alone-accepted me u (cleared (leave_rules me u) clear) e)
 
@@ -149,13 +149,13 @@ module _ (s : State) (w : WellFormed s) where
       (after-own (leave_rules u (node_at s u)) ((28 when is_full s && not (alone u (node_at s u))) ∷ []) (node_at s u) (leaving u (node_at s u)) o _ says
       (λ clear. ⊎_elim (by_itself clear) (by-request clear) (decided (alone u (node_at s u)))))
     where
-      by_itself : first (leave_rules u (node_at s u)) ≡ none → alone u (node_at s u) ≡ true
+      by_itself : first (leave_rules u (node_at s u)) ≡ None → alone u (node_at s u) ≡ true
           → first (room_tests (length s.messages) (leave_of u (node_at s u)).posts) ≡ first ((28 when is_full s && not (alone u (node_at s u))) ∷ [])
       by_itself clear e =
           let room = le-leb (length s.messages + length (leave_of u (node_at s u)).posts) queue_limit (omega (arith, alone-posts u (node_at s u) clear e, w.few_messages)) in
           rw (room, e, and-false (is_full s))
 
-      by-request : first (leave_rules u (node_at s u)) ≡ none → alone u (node_at s u) ≡ false
+      by-request : first (leave_rules u (node_at s u)) ≡ None → alone u (node_at s u) ≡ false
           → first (room_tests (length s.messages) (leave_of u (node_at s u)).posts) ≡ first ((28 when is_full s && not (alone u (node_at s u))) ∷ [])
       by-request clear e = rw (left-posts u (node_at s u) clear e, full-by-one (length s.messages), e, and-true)
 

@@ -1,8 +1,8 @@
 -- No rules stand here: it is what the code computes on its way, a decision carried out, the next
 -- delivery of a drain, and what a task comes to. That this is what the rules say of a well-formed
 -- network is proved in `proofs/`. Definitions only.
-use Rattle.std.specs.Prelude.{ℕ, ◌≡◌, true}
-use Rattle.std.proofs.Math.Option.{Option, none, some}
+use Rattle.std.specs.Prelude.{ℕ, ◌≡◌, true, Option, None, Some, Result, Ok, Err}
+use Rattle.refusal.specs.declared.Refusal.{Refusal}
 use Rattle.refusal.specs.Code.{reason}
 use Rattle.protocol.specs.declared.Call.TheVariants.{Deliver}
 use Rattle.protocol.specs.Drain.{lowest}
@@ -22,21 +22,21 @@ outcome n d = record { network = committed n d.change; posted = d.posted; said =
 
 -- ---- a drain's next delivery
 abbrev pub place_of : Option ℕ → ℕ
-place_of none = 0
-place_of (some place) = place
+place_of None = 0
+place_of (Some place) = place
 
 abbrev pub next_delivery : Network → Applied
 next_delivery n = apply_of n (Deliver (place_of (lowest (live n))))
 
 -- what a task comes to, and what it asks of the network
-abbrev pub done_on : Network → Task → Applied
-done_on n (task.Refuse r) = refused n (reason r)
-done_on n (task.Call call) = apply_of n call
-done_on n (task.Owner start serial) = execute_of n (record'.Owner start serial)
-done_on n (task.Drain budget) = drain_of n budget
+abbrev pub done_on : Network → Result Task Refusal → Applied
+done_on n (Err r) = refused n (reason r)
+done_on n (Ok (task.Call call)) = apply_of n call
+done_on n (Ok (task.Owner start serial)) = execute_of n (record'.Owner start serial)
+done_on n (Ok (task.Drain budget)) = drain_of n budget
 
-abbrev pub Allowed : Network → Task → Type 0
-Allowed n (task.Refuse r) = Unit {0}
-Allowed n (task.Call call) = well_formed n ≡ true
-Allowed n (task.Owner start serial) = well_formed n ≡ true
-Allowed n (task.Drain budget) = well_formed n ≡ true
+abbrev pub Allowed : Network → Result Task Refusal → Type 0
+Allowed n (Err r) = Unit {0}
+Allowed n (Ok (task.Call call)) = well_formed n ≡ true
+Allowed n (Ok (task.Owner start serial)) = well_formed n ≡ true
+Allowed n (Ok (task.Drain budget)) = well_formed n ≡ true

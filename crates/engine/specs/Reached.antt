@@ -1,11 +1,11 @@
 -- No rules stand here: it is how far the code has come in a run, read off its network, its progress
 -- and its text in the words of the definition. Definitions only.
-use Rattle.std.specs.Prelude.{ℕ, List, take}
+use Rattle.std.specs.Prelude.{ℕ, List}
 use Rattle.network.specs.declared.Network.{Network}
 use Rattle.network.specs.Arrays.{live}
 use Rattle.progress.specs.declared.Progress.{Progress}
 use Rattle.course.specs.Run.{Progress as ProgressOfLists}
 
--- the network beside the progress; the printout so far stands at the start of a buffer
+-- the network beside the progress and the printout so far
 abbrev pub reached : Network → Progress → List ℕ → ProgressOfLists
-reached n p buffer = record { state = live n; at = p.at; ordinal = p.ordinal; posted = p.posted; text = take p.used buffer }
+reached n p text = record { state = live n; at = p.at; ordinal = p.ordinal; posted = p.posted; text = text }

@@ -2,27 +2,28 @@
 ghost use Rattle.std.specs.Prelude.{◌≡◌};
 ghost use Rattle.engine.specs.Outcomes.{called, reported, counted, apply_of};
 
-use crate::{Called, in_place, unchecked};
+use crate::{Called, in_place};
 use network::Network;
 use protocol::Call;
 use refusal::Refusal;
 use report::Report;
 
-// Any call, on any network.
-pub fn apply(network: Network, call: Call) -> Called
-    ensures { called result ≡ counted (apply_of network call) }
-{
-    if network.is_well_formed() {
-        unchecked::apply(network, call)
-    } else {
-        unchecked::refuse(network, Refusal::Malformed)
-    }
-}
-
 // Any call on any network, where it lies.
 pub fn act(network: &mut Network, call: Call) -> Report
     ensures { reported network.new result ≡ counted (apply_of network.old call) }
 {
-    let task = admission::admit_call(*network, call);
-    in_place::execute(network, task)
+    if network.is_well_formed() {
+        in_place::act(network, call)
+    } else {
+        report::refused(Refusal::Malformed)
+    }
+}
+
+// The same by value.
+pub fn apply(network: Network, call: Call) -> Called
+    ensures { called result ≡ counted (apply_of network call) }
+{
+    let mut network = network;
+    let report = act(&mut network, call);
+    Called { network, report }
 }

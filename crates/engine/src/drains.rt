@@ -2,26 +2,27 @@
 ghost use Rattle.std.specs.Prelude.{◌≡◌};
 ghost use Rattle.engine.specs.Outcomes.{called, reported, counted, drain_of};
 
-use crate::{Called, in_place, unchecked};
+use crate::{Called, in_place};
 use network::Network;
 use refusal::Refusal;
 use report::Report;
-
-// A drain of any network.
-pub fn drain(network: Network, budget: u16) -> Called
-    ensures { called result ≡ counted (drain_of network budget) }
-{
-    if network.is_well_formed() {
-        unchecked::drain(network, budget)
-    } else {
-        unchecked::refuse(network, Refusal::Malformed)
-    }
-}
 
 // A drain of any network, where it lies.
 pub fn drain_in_place(network: &mut Network, budget: u16) -> Report
     ensures { reported network.new result ≡ counted (drain_of network.old budget) }
 {
-    let task = admission::admit_drain(*network, budget);
-    in_place::execute(network, task)
+    if network.is_well_formed() {
+        in_place::drain(network, budget)
+    } else {
+        report::refused(Refusal::Malformed)
+    }
+}
+
+// The same by value.
+pub fn drain(network: Network, budget: u16) -> Called
+    ensures { called result ≡ counted (drain_of network budget) }
+{
+    let mut network = network;
+    let report = drain_in_place(&mut network, budget);
+    Called { network, report }
 }

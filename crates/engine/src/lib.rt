@@ -13,7 +13,6 @@ mod drains;
 mod in_place;
 mod printing;
 mod questions;
-mod unchecked;
 
 pub use calls::{act, apply};
 pub use drains::{drain, drain_in_place};

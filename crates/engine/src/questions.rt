@@ -13,9 +13,9 @@ pub fn inserted(network: Network) -> Answer
     ensures { answered result ≡ inserted_of network }
 {
     if !network.is_well_formed() {
-        return Answer::Refused(Refusal::Malformed);
+        return Err(Refusal::Malformed);
     }
-    members::inserted(network)
+    members::inserted(&network)
 }
 
 // The owner of a serial from a start, in any network.
@@ -23,8 +23,8 @@ pub fn owner(network: Network, start: u8, serial: u32) -> Answer
     ensures { answered result ≡ owner_of network start serial }
 {
     if network.is_well_formed() {
-        owners::owner(network, start, serial)
+        owners::owner(&network, start, serial)
     } else {
-        Answer::Refused(Refusal::Malformed)
+        Err(Refusal::Malformed)
     }
 }

@@ -1,14 +1,14 @@
 -- A ring with one member more, and with one less. The ring is cut where the change is made and read
 -- from there on; all links but one or two are kept, and the key of a new member says where in the
 -- order it stands. Assumes nothing.
+use Rattle.std.specs.Prelude.{Some}
 use mathlib.Core.Path.{◌≡◌, refl, sym, ap, ◌∙◌}
 use mathlib.Core.Logic.{inl, ⊎_elim, ◌≢◌}
 use mathlib.Core.List.{List, [], ◌∷◌, ◌++◌}
 use Prim.Native.Nat.{ℕ, ◌<◌, ◌≤◌}
 use native.Mathlib.Omega.{arith}
 use Rattle.interval.proofs.Laws.{Between, inside, above, below}
-use Rattle.parts.specs.declared.Link.{Link}
-use Rattle.parts.specs.declared.Link.TheVariants.{To}
+use Rattle.parts.specs.Tests.{Link}
 use Rattle.predicates.proofs.TestLaws.{◌∈◌}
 use Rattle.links.proofs.Ring.{here, there, in_right, Ascending, first, Trail, Links, Ring, With, Without}
 use Rattle.links.proofs.Lists.{cut, each_nil, each_cons, swapped, adds-first, adds-between, adds-behind}
@@ -21,7 +21,7 @@ first-lowest : (key : ℕ → ℕ) (L : List ℕ) (z : ℕ) → Ascending key L 
 first-lowest key [] z h = each_nil (λ x. key z ≤ key x)
 first-lowest key (a ∷ l) z h = each_cons (λ x. key a ≤ key x) a l (omega arith) (λ x i. omega (arith, h.0 x i))
 
-module _ (key : ℕ → ℕ) (right right' : ℕ → Link) (p u q : ℕ) (from : right p ≡ To q) (at_p : right' p ≡ To u) (at-u : right' u ≡ To q)
+module _ (key : ℕ → ℕ) (right right' : ℕ → Link) (p u q : ℕ) (from : right p ≡ Some q) (at_p : right' p ≡ Some u) (at-u : right' u ≡ Some q)
     (others : (m : ℕ) → m ≢ p → m ≢ u → right' m ≡ right m) where
   -- q comes behind p in the order; where p is the last, q is the first
   next : (pre post : List ℕ) → Ring key right (pre ++ p ∷ post) → q ≡ first (post ++ pre) p
@@ -48,7 +48,7 @@ module _ (key : ℕ → ℕ) (right right' : ℕ → Link) (p u q : ℕ) (from :
     round_with : Links right' (p ∷ u ∷ post ++ pre)
     round_with =
         let round = rotate right pre (p ∷ post) r.links in
-        (at_p, (at-u ∙ ap To (next pre post r), trail-kept right right' (post ++ pre) p rest-kept round.1))
+        (at_p, (at-u ∙ ap Some (next pre post r), trail-kept right right' (post ++ pre) p rest-kept round.1))
 
     behind-p : key p < key u → ((y : ℕ) → y ∈ post → key u < key y) → With key right' (pre ++ p ∷ post) u
     behind-p lo hi = record {
@@ -80,18 +80,18 @@ module _ (key : ℕ → ℕ) (right right' : ℕ → Link) (p u q : ℕ) (from :
   put pre (b ∷ post) r new (above h k) = absurd (omega (arith, (next-higher pre b post r).0))
   put pre (b ∷ post) r new (below h k) = absurd (omega (arith, (next-higher pre b post r).0))
 
-pub insert : {key : ℕ → ℕ} {right right' : ℕ → Link} {L : List ℕ} {p u q : ℕ} → Ring key right L → p ∈ L → ¬ (u ∈ L) → right p ≡ To q
-    → right' p ≡ To u → right' u ≡ To q → ((m : ℕ) → m ≢ p → m ≢ u → right' m ≡ right m) → Between (key p) (key q) (key u)
+pub insert : {key : ℕ → ℕ} {right right' : ℕ → Link} {L : List ℕ} {p u q : ℕ} → Ring key right L → p ∈ L → ¬ (u ∈ L) → right p ≡ Some q
+    → right' p ≡ Some u → right' u ≡ Some q → ((m : ℕ) → m ≢ p → m ≢ u → right' m ≡ right m) → Between (key p) (key q) (key u)
     → With key right' L u
 insert {key} {right} {right'} {L} {p} {u} {q} r i new from at_p at-u others b =
     let (pre, post, e) = cut i in
     rw e (put key right right' p u q from at_p at-u others pre post (rw e at r) (rw e at new) b)
 
 -- ---- one member less
-module _ (key : ℕ → ℕ) (right right' : ℕ → Link) (p u q : ℕ) (from : right p ≡ To u) (out : right u ≡ To q) (at_p : right' p ≡ To q)
+module _ (key : ℕ → ℕ) (right right' : ℕ → Link) (p u q : ℕ) (from : right p ≡ Some u) (out : right u ≡ Some q) (at_p : right' p ≡ Some q)
     (others : (m : ℕ) → m ≢ p → m ≢ u → right' m ≡ right m) where
   -- a trail to u, whose last is p, leads to q now
-  led_on : (l : List ℕ) → ((m : ℕ) → m ∈ l → right m ≡ To u → m ≡ p) → ((m : ℕ) → m ∈ l → m ≢ u) → Trail right l u → Trail right' l q
+  led_on : (l : List ℕ) → ((m : ℕ) → m ∈ l → right m ≡ Some u → m ≡ p) → ((m : ℕ) → m ∈ l → m ≢ u) → Trail right l u → Trail right' l q
   led_on [] only n h = tt
   led_on (a ∷ []) only n h = (rw (only a (here refl) h.0) at_p, tt)
   led_on (a ∷ b ∷ l) only n h = (
@@ -122,8 +122,8 @@ module _ (key : ℕ → ℕ) (right right' : ℕ → Link) (p u q : ℕ) (from :
         );
       }
 
-pub remove : {key : ℕ → ℕ} {right right' : ℕ → Link} {L : List ℕ} {p u q : ℕ} → Ring key right L → p ∈ L → u ∈ L → right p ≡ To u
-    → right u ≡ To q → right' p ≡ To q → ((m : ℕ) → m ≢ p → m ≢ u → right' m ≡ right m) → Without key right' L u
+pub remove : {key : ℕ → ℕ} {right right' : ℕ → Link} {L : List ℕ} {p u q : ℕ} → Ring key right L → p ∈ L → u ∈ L → right p ≡ Some u
+    → right u ≡ Some q → right' p ≡ Some q → ((m : ℕ) → m ≢ p → m ≢ u → right' m ≡ right m) → Without key right' L u
 remove {key} {right} {right'} {L} {p} {u} {q} r i j from out at_p others =
     let (pre, post, e) = cut j in
     rw e (take_out key right right' p u q from out at_p others pre post (rw e at r) (rw e at i))

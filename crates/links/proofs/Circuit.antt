@@ -1,6 +1,7 @@
 -- What holds in a ring: each member has one successor and one predecessor, both members, and the
 -- walk from each goes once round. The ring is cut at a member s and read from s on, as a trail from
 -- s to s; the walk follows that trail. Assumes nothing.
+use Rattle.std.specs.Prelude.{Some}
 use mathlib.Core.Path.{◌≡◌, refl, sym, ap, ◌∙◌}
 use mathlib.Core.Logic.{◌↔◌, ◌≢◌}
 use mathlib.Core.Bool.{Bool}
@@ -9,8 +10,7 @@ use Prim.Native.Nat.{ℕ, ◌≤◌}
 use native.Mathlib.Omega.{arith}
 use lib.ListN.{length}
 use borrow.Author.Tests.{le-leb, lt-leb}
-use Rattle.parts.specs.declared.Link.{Link}
-use Rattle.parts.specs.declared.Link.TheVariants.{To}
+use Rattle.parts.specs.Tests.{Link}
 use Rattle.predicates.specs.Tests.{count}
 use Rattle.predicates.proofs.TestLaws.{◌∈◌, bit-true, bit-false}
 use Rattle.links.specs.Walk.{move, walk, falls, Circuit, Predecessor}
@@ -22,7 +22,7 @@ use Rattle.links.proofs.Trails.{same_end, rotate, move-to, walk-along, after-tra
 pub no-ring : {key : ℕ → ℕ} {right : ℕ → Link} → Ring key right []
 no-ring = record { ascending = tt; links = tt }
 
-pub one-ring : {key : ℕ → ℕ} {right : ℕ → Link} {u : ℕ} → right u ≡ To u → Ring key right (u ∷ [])
+pub one-ring : {key : ℕ → ℕ} {right : ℕ → Link} {u : ℕ} → right u ≡ Some u → Ring key right (u ∷ [])
 one-ring h = record { ascending = (λ b i. absurd (in-nil i), tt); links = (h, tt) }
 
 pub ascending-kept : (key key' : ℕ → ℕ) (L : List ℕ) → ((m : ℕ) → m ∈ L → key' m ≡ key m) → Ascending key L → Ascending key' L
@@ -74,7 +74,7 @@ last_of right a (b ∷ l) z h n =
       node = p.node;
       member = there p.member;
       links = p.links;
-      only = each_cons (λ m. right m ≡ To z → m ≡ p.node) a (b ∷ l) (λ k. absurd (n b (here refl) (same_end h.0 k))) p.only;
+      only = each_cons (λ m. right m ≡ Some z → m ≡ p.node) a (b ∷ l) (λ k. absurd (n b (here refl) (same_end h.0 k))) p.only;
     }
 
 -- an ascending trail falls once, at its last node, where it ends at or below its start
@@ -98,13 +98,13 @@ falls-ring {key} {right} (a ∷ l) r i = falls-last key right a l a r.ascending 
 
 -- ---- in a ring
 module _ {key : ℕ → ℕ} {right : ℕ → Link} {L : List ℕ} (ring : Ring key right L) where
-  pub linked-in : {p : ℕ} → p ∈ L → (q : ℕ) × (right p ≡ To q)
+  pub linked-in : {p : ℕ} → p ∈ L → (q : ℕ) × (right p ≡ Some q)
   linked-in {p} i = let f = from ring i in (first f.rest p, f.trail.0)
 
-  pub next-in : {p q : ℕ} → p ∈ L → right p ≡ To q → q ∈ L
+  pub next-in : {p q : ℕ} → p ∈ L → right p ≡ Some q → q ∈ L
   next-in {p} i h = let f = from ring i in (f.members _).1 (rw (same_end h f.trail.0) (first_in p f.rest))
 
-  pub alone-in : {u : ℕ} → u ∈ L → right u ≡ To u → (m : ℕ) → m ∈ L → m ≡ u
+  pub alone-in : {u : ℕ} → u ∈ L → right u ≡ Some u → (m : ℕ) → m ∈ L → m ≡ u
   alone-in {u} i h m j = let f = from ring i in go f.rest f.trail f.others ((f.members m).0 j)
     where
       go : (l : List ℕ) → Trail right (u ∷ l) u → ((x : ℕ) → x ∈ l → x ≢ u) → m ∈ (u ∷ l) → m ≡ u
@@ -117,11 +117,11 @@ module _ {key : ℕ → ℕ} {right : ℕ → Link} {L : List ℕ} (ring : Ring 
       let p = last_of right q f.rest q f.trail f.others in
       record { node = p.node; member = (f.members _).1 p.member; links = p.links; only = λ m j. p.only m ((f.members m).0 j) }
 
-  pub one-predecessor : {p r q : ℕ} → p ∈ L → r ∈ L → right p ≡ To q → right r ≡ To q → p ≡ r
+  pub one-predecessor : {p r q : ℕ} → p ∈ L → r ∈ L → right p ≡ Some q → right r ≡ Some q → p ≡ r
   one-predecessor {p} {r} i j h k = let b = predecessor (next-in i h) in b.only p i h ∙ sym (b.only r j k)
 
-  goes_on : (m : ℕ) → m ∈ L → right m ≡ To (move right m)
-  goes_on m i = let h = (linked-in i).1 in h ∙ ap To (sym (move-to right h))
+  goes_on : (m : ℕ) → m ∈ L → right m ≡ Some (move right m)
+  goes_on m i = let h = (linked-in i).1 in h ∙ ap Some (sym (move-to right h))
 
   -- on the round from s as many pass a test as in L
   met : {s : ℕ} (i : s ∈ L) (test : ℕ → Bool) → count test (walk right s (length (s ∷ (from ring i).rest))) ≡ count test L
@@ -138,5 +138,5 @@ module _ {key : ℕ → ℕ} {right : ℕ → Link} {L : List ℕ} (ring : Ring 
         no_other = λ m k. met i _ ∙ never m L (λ j. k ((members m).0 j));
         home = after-trail right (s ∷ f.rest) s f.trail;
         falls_once = met i _ ∙ falls-ring L ring i;
-        lone = λ all. goes_on s i ∙ ap To (all _ ((members _).0 (next-in i (goes_on s i))));
+        lone = λ all. goes_on s i ∙ ap Some (all _ ((members _).0 (next-in i (goes_on s i))));
       }

@@ -1,6 +1,7 @@
 -- Three nodes with the keys 5, 9 and 7, linked as a ring: the words of `Walk` computed on them,
 -- then the circuit, a predecessor, a member more and a member less, so that no hypothesis of the
 -- theorems is void. Assumes nothing.
+use Rattle.std.specs.Prelude.{Some, None}
 use mathlib.Core.Path.{◌≡◌, refl, sym}
 use mathlib.Core.Logic.{⊎_elim, ◌≢◌}
 use mathlib.Core.List.{[], ◌∷◌}
@@ -9,8 +10,7 @@ use lib.ListN.{get_or}
 use lib.Dec.{lit<}
 use native.Mathlib.Omega.{arith}
 use Rattle.interval.proofs.Laws.{inside}
-use Rattle.parts.specs.declared.Link.{Link}
-use Rattle.parts.specs.declared.Link.TheVariants.{Unlinked, To}
+use Rattle.parts.specs.Tests.{Link}
 use Rattle.predicates.proofs.TestLaws.{◌∈◌}
 use Rattle.links.specs.Walk.{after, walk, times, falls, Circuit, Predecessor}
 use Rattle.links.proofs.Ring.{here, there, in-nil, in-cons, Ring, With, Without}
@@ -23,10 +23,10 @@ key m = get_or (5 ∷ 9 ∷ 7 ∷ []) m 0
 
 -- the right links of 0 and 1, and with 2 between them
 abbrev two : ℕ → Link
-two m = get_or (To 1 ∷ To 0 ∷ []) m Unlinked
+two m = get_or (Some 1 ∷ Some 0 ∷ []) m None
 
 abbrev three : ℕ → Link
-three m = get_or (To 2 ∷ To 0 ∷ To 1 ∷ []) m Unlinked
+three m = get_or (Some 2 ∷ Some 0 ∷ Some 1 ∷ []) m None
 
 -- ---- the words
 of_three :
@@ -35,7 +35,7 @@ of_three = (refl, refl, refl, refl)
 
 -- in the order 0, 1, 2 the walk falls twice: from 9 to 7, and from 7 to 5
 abbrev unsorted : ℕ → Link
-unsorted m = get_or (To 1 ∷ To 2 ∷ To 0 ∷ []) m Unlinked
+unsorted m = get_or (Some 1 ∷ Some 2 ∷ Some 0 ∷ []) m None
 
 two-falls : falls key unsorted (walk unsorted 2 3) ≡ 2
 two-falls = refl

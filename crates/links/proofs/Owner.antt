@@ -2,6 +2,7 @@
 -- key of its right link. The ring is read as an ascending trail, which each of its nodes cuts into
 -- two intervals that share nothing: so one member owns d and no other does. The walk from any
 -- member meets it before it comes home. Assumes nothing.
+use Rattle.std.specs.Prelude.{Some}
 use mathlib.Core.Path.{◌≡◌, refl, sym, ap, ◌∙◌}
 use mathlib.Core.Logic.{inl, inr, ⊎_elim}
 use mathlib.Core.List.{List, [], ◌∷◌, ◌++◌}
@@ -9,8 +10,7 @@ use Prim.Native.Nat.{ℕ, suc, ◌≤◌, ◌<◌}
 use native.Mathlib.Omega.{arith}
 use lib.ListN.{length, length-append}
 use Rattle.interval.proofs.Laws.{Between, above, Within, within-self, within-split, within-apart}
-use Rattle.parts.specs.declared.Link.{Link}
-use Rattle.parts.specs.declared.Link.TheVariants.{To}
+use Rattle.parts.specs.Tests.{Link}
 use Rattle.predicates.proofs.TestLaws.{◌∈◌}
 use Rattle.links.specs.Walk.{after}
 use Rattle.links.proofs.Ring.{here, there, in-nil, in_one, in-cons, Ascending, Trail, Ring}
@@ -21,7 +21,7 @@ use Rattle.links.proofs.Trails.{same_end, rotate, move-to}
 -- d is in [key of m, key of its right link)
 pub record OwnsKey (key : ℕ → ℕ) (right : ℕ → Link) (d m : ℕ) : Type 0 where
   pub next : ℕ
-  pub link : right m ≡ To next
+  pub link : right m ≡ Some next
   pub within : Within (key m) (key next) d
 
 -- the one of l that owns d
@@ -32,7 +32,7 @@ pub record KeyOwner (key : ℕ → ℕ) (right : ℕ → Link) (d : ℕ) (l : Li
   pub only : (m : ℕ) → m ∈ l → OwnsKey key right d m → m ≡ node
 
 module _ (key : ℕ → ℕ) (right : ℕ → Link) (d : ℕ) where
-  owned-up-to : {a b : ℕ} → right a ≡ To b → OwnsKey key right d a → Within (key a) (key b) d
+  owned-up-to : {a b : ℕ} → right a ≡ Some b → OwnsKey key right d a → Within (key a) (key b) d
   owned-up-to h o = rw (same_end o.link h) at o.within
 
   -- an ascending trail that ends at or below its start: its second node lies between the two

@@ -14,7 +14,7 @@ pub use mathlib.Core.List.Memᴰ.{append_left as in_left}
 pub use mathlib.Core.List.Memᴰ.{append_right as in_right}
 use Prim.Native.Nat.{ℕ}
 use Rattle.predicates.proofs.TestLaws.{◌∈◌}
-use Rattle.parts.specs.declared.Link.{Link}
+use Rattle.parts.specs.Tests.{Link}
 pub use Rattle.links.specs.Ring.{Ascending, first, Trail, Links, Ring}
 
 -- a ring of L and u

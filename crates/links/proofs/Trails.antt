@@ -1,12 +1,12 @@
 -- Trails of right links: a trail in two parts, a closed trail read from another of its nodes on, a
 -- trail whose nodes keep their links, and the walk along a trail. By induction on the list. Assumes
 -- nothing.
+use Rattle.std.specs.Prelude.{Some}
 use mathlib.Core.Path.{◌≡◌, refl, ap, ◌∙◌}
 use mathlib.Core.List.{List, [], ◌∷◌, ◌++◌, append-nil}
 use Prim.Native.Nat.{ℕ}
 use lib.ListN.{length}
-use Rattle.parts.specs.declared.Link.{Link}
-use Rattle.parts.specs.declared.Link.TheVariants.{To}
+use Rattle.parts.specs.Tests.{Link}
 use Rattle.predicates.proofs.TestLaws.{◌∈◌}
 use Rattle.links.specs.Walk.{end_of, move, after, walk}
 use Rattle.links.proofs.Ring.{here, there, first, Trail, Links}
@@ -16,7 +16,7 @@ first_append [] m z = refl
 first_append (a ∷ l) m z = refl
 
 -- a link leads to one place
-pub same_end : {k : Link} {a b : ℕ} → k ≡ To a → k ≡ To b → a ≡ b
+pub same_end : {k : Link} {a b : ℕ} → k ≡ Some a → k ≡ Some b → a ≡ b
 same_end h i = cc
 
 module _ (right : ℕ → Link) where
@@ -40,7 +40,7 @@ module _ (right : ℕ → Link) where
   rotate (a ∷ l) (b ∷ m) h = trail-join (b ∷ m) (a ∷ l) b (trail-right (a ∷ l) (b ∷ m) a h) (trail-left (a ∷ l) (b ∷ m) a h)
 
   -- ---- the walk along a trail
-  pub move-to : {a b : ℕ} → right a ≡ To b → move right a ≡ b
+  pub move-to : {a b : ℕ} → right a ≡ Some b → move right a ≡ b
   move-to {a} h = ap (λ x. end_of x a) h
 
   pub walk-along : (l : List ℕ) (z : ℕ) → Trail right l z → walk right (first l z) (length l) ≡ l

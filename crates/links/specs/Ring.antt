@@ -1,10 +1,9 @@
 -- R10.3, R10.12, a ring written down as a list: its members in the order of their keys, each with a
 -- right link to the next and the last with one to the first; and that list with a member more, or
 -- one less. A node is a number; `key` gives its key and `right` its right link. Definitions only.
-use Rattle.std.specs.Prelude.{◌≡◌, cond, ℕ, ◌<◌, eqb, ltb}
+use Rattle.std.specs.Prelude.{◌≡◌, cond, ℕ, ◌<◌, eqb, ltb, Some}
 use mathlib.Core.List.{List, [], ◌∷◌, Memᴰ}
-use Rattle.parts.specs.declared.Link.{Link}
-use Rattle.parts.specs.declared.Link.TheVariants.{To}
+use Rattle.parts.specs.Tests.{Link}
 
 -- R10.3: each of L has a lower key than all that follow it
 abbrev pub Ascending : (ℕ → ℕ) → List ℕ → Type 0
@@ -19,7 +18,7 @@ first (a ∷ l) z = a
 -- R10.3: each of l has a right link to the next of l, and the last of l has one to z
 abbrev pub Trail : (ℕ → Link) → List ℕ → ℕ → Type 0
 Trail right [] z = Unit {0}
-Trail right (a ∷ l) z = (right a ≡ To (first l z)) × Trail right l z
+Trail right (a ∷ l) z = (right a ≡ Some (first l z)) × Trail right l z
 
 -- R10.3: each of L has a right link to the next of L, and the last of L has one to the first
 abbrev pub Links : (ℕ → Link) → List ℕ → Type 0

@@ -1,16 +1,15 @@
 -- The words of the theorem on the ring: a walk along right links, and what it means that a walk
 -- goes once round the members. A node is a number; `key` gives its key and `right` its right link.
 -- Definitions only.
-use Rattle.std.specs.Prelude.{◌≡◌, List, [], ◌∷◌, ℕ, zero, suc, eqb, leb}
+use Rattle.std.specs.Prelude.{◌≡◌, List, [], ◌∷◌, ℕ, zero, suc, eqb, leb, Some, None}
 use Rattle.predicates.specs.Tests.{count}
-use Rattle.parts.specs.declared.Link.{Link}
-use Rattle.parts.specs.declared.Link.TheVariants.{Unlinked, To}
+use Rattle.parts.specs.Tests.{Link}
 
 -- ---- the walk
 -- R10.5: where a link of s leads; s itself where there is none
 abbrev pub end_of : Link → ℕ → ℕ
-end_of Unlinked s = s
-end_of (To t) s = t
+end_of None s = s
+end_of (Some t) s = t
 
 -- R10.5: where one move from s leads, along its right link
 abbrev pub move : (ℕ → Link) → ℕ → ℕ
@@ -41,7 +40,7 @@ pub record Circuit (key : ℕ → ℕ) (right : ℕ → Link) (Member : ℕ → 
   -- how many moves the round takes
   pub moves : ℕ
   -- each member has a right link
-  pub linked : (m : ℕ) → Member m → right m ≡ To (move right m)
+  pub linked : (m : ℕ) → Member m → right m ≡ Some (move right m)
   -- the round meets each member once
   pub each_once : (m : ℕ) → Member m → times m (walk right s moves) ≡ 1
   -- it meets nothing else
@@ -51,11 +50,11 @@ pub record Circuit (key : ℕ → ℕ) (right : ℕ → Link) (Member : ℕ → 
   -- just one of its moves does not lead to a higher key
   pub falls_once : falls key right (walk right s moves) ≡ 1
   -- a member alone has a right link to itself
-  pub lone : ((m : ℕ) → Member m → m ≡ s) → right s ≡ To s
+  pub lone : ((m : ℕ) → Member m → m ≡ s) → right s ≡ Some s
 
 -- R10.7: the one member whose right link leads to q
 pub record Predecessor (right : ℕ → Link) (Member : ℕ → Type 0) (q : ℕ) : Type 0 where
   pub node : ℕ
   pub member : Member node
-  pub links : right node ≡ To q
-  pub only : (m : ℕ) → Member m → right m ≡ To q → m ≡ node
+  pub links : right node ≡ Some q
+  pub only : (m : ℕ) → Member m → right m ≡ Some q → m ≡ node

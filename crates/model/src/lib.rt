@@ -2,12 +2,9 @@
 // against. Nothing is claimed of it but that it always ends and that nothing it does is undefined.
 #![tactic(auto)]
 
-pub mod lines;
+pub mod answer;
 pub mod network;
-pub mod packed;
 pub mod printing;
 pub mod reading;
-pub mod record;
 pub mod rules;
-pub mod sheet;
-pub mod text;
+pub mod script;

@@ -1,421 +1,303 @@
-// The network of paper 01, written a second time and otherwise: a sheet of numbers, with the
-// messages on the way as a chain of slots. What an order is answered is found first, with the
-// network untouched; then the network changes, if the answer is no refusal.
-use crate::packed::*;
-use crate::rules::*;
-use crate::sheet::*;
-use std::num::{wrapping_add_usize as plus, wrapping_sub_usize as minus};
+// The network of paper 01, written a second time and otherwise: two lists. What an order or a
+// delivery comes to is found first, with the network untouched; then the step is taken, if it is
+// not refused.
+use crate::answer::{Answer, Outcome, Refusal};
+use crate::rules::{Kind, Message, Node, Status};
+use arrayvec::ArrayVec;
+use std::iter;
 
-// Rows with a place for each node: the node, its key, and, so many rows on from AWAITED as a kind's
-// number, how many messages of that kind are on the way to it.
-const WORD: usize = 0;
-
-pub const KEY: usize = 1;
-
-const AWAITED: usize = 2;
-
-pub const REQUESTS: usize = 3;
-
-const ACKS: usize = 4;
-
-const NOTICES: usize = 6;
-
-// Rows with a place for each slot, from 1. Place 0 of NEXT leads to the slot of the first message,
-// and each slot to the one after.
-const MESSAGE: usize = 7;
-
-const NEXT: usize = 8;
-
-// The row of counts, and its places: PASSED is how often a drain passed a place over, MADE the
-// deliveries of the last one.
-pub(crate) const COUNTS: usize = 9;
-
-pub const NODES: usize = 0;
-
-pub const UNDERWAY: usize = 1;
-
-pub(crate) const POSTED: usize = 2;
-
-pub const PASSED: usize = 3;
-
-pub(crate) const MADE: usize = 4;
-
-pub const FULL: usize = 64;
-
-pub fn count(network: &Sheet, place: usize) -> usize {
-    get(network, COUNTS, place)
+// What an order or a delivery does: what a node is from then on, what it posts, and the outcome.
+#[derive(Clone, Copy)]
+pub struct Step {
+    node: u8,
+    after: Node,
+    posts: [Option<Message>; 2],
+    pub outcome: Outcome,
 }
 
-pub fn word(network: &Sheet, node: usize) -> usize {
-    get(network, WORD, node)
-}
-
-fn status(network: &Sheet, node: usize) -> usize {
-    digit(word(network, node), STATUS)
-}
-
-pub fn right(network: &Sheet, node: usize) -> usize {
-    digit(word(network, node), RIGHT)
+impl Step {
+    pub fn request(&self) -> Option<&Message> {
+        self.posts
+            .iter()
+            .flatten()
+            .find(|message| message.kind == Kind::SetR)
+    }
 }
 
 // Going up from key a, and on from 0 past the highest, d comes before b: d is in [a, b).
-fn holds(a: usize, b: usize, d: usize) -> bool {
-    if a == b {
-        return true;
-    }
-    minus(d, a) < minus(b, a)
+fn holds(a: u32, b: u32, d: u32) -> bool {
+    a == b || d.wrapping_sub(a) < b.wrapping_sub(a)
 }
 
-pub fn is_inserted(network: &Sheet, node: usize) -> bool {
-    let acks = get(network, ACKS, node);
-    match status(network, node) {
-        IN => true,
-        INS => acks > 0,
-        DEL => acks == 0,
-        _ => false,
-    }
+#[derive(Drop)]
+pub struct Network {
+    nodes: ArrayVec<Node, 32>,
+    messages: ArrayVec<Message, 64>,
+    posted: usize,
+    passed_over: usize,
 }
 
-// The slot that leads to the message at a place; past all messages, the slot of the last.
-fn slot_before(network: &Sheet, place: usize) -> usize {
-    let mut slot = 0;
-    for _ in 0..place {
-        slot = get(network, NEXT, slot);
-    }
-    slot
-}
-
-fn message_at(network: &Sheet, place: usize) -> usize {
-    let slot = get(network, NEXT, slot_before(network, place));
-    get(network, MESSAGE, slot)
-}
-
-// The first place from a given one with anything but a notice, or the number of messages.
-pub fn place_of_no_notice(network: &Sheet, from: usize) -> usize {
-    let messages = count(network, UNDERWAY);
-    let mut slot = slot_before(network, from);
-    for place in from..messages {
-        slot = get(network, NEXT, slot);
-        if digit(get(network, MESSAGE, slot), KIND) != SETL {
-            return place;
+impl Network {
+    pub fn new() -> Self {
+        Network {
+            nodes: ArrayVec::new(),
+            messages: ArrayVec::new(),
+            posted: 0,
+            passed_over: 0,
         }
     }
-    messages
-}
 
-// The network is full and a request comes first: a drain may have to pass it over.
-pub fn is_full_behind_request(network: &Sheet) -> bool {
-    let first = message_at(network, 0);
-    count(network, UNDERWAY) == FULL && digit(first, KIND) == SETR
-}
+    pub fn messages(&self) -> &[Message] {
+        self.messages.as_slice()
+    }
 
-fn empty_slot(network: &Sheet) -> usize {
-    for slot in 1..128 {
-        if get(network, MESSAGE, slot) == 0 {
-            return slot;
+    // How many nodes are declared.
+    pub fn declared_nodes(&self) -> u8 {
+        self.nodes.len() as u8
+    }
+
+    // How many messages wait.
+    pub fn waiting(&self) -> u8 {
+        self.messages.len() as u8
+    }
+
+    pub fn is_full(&self) -> bool {
+        self.messages.is_full()
+    }
+
+    // How many messages were ever posted.
+    pub fn posted(&self) -> usize {
+        self.posted
+    }
+
+    // How often a drain passed over a place whose delivery is refused.
+    pub fn passed_over(&self) -> usize {
+        self.passed_over
+    }
+
+    // A node that is not declared is as one that is out.
+    pub fn node(&self, number: u8) -> Node {
+        self.nodes
+            .get(usize::from(number))
+            .copied()
+            .unwrap_or_default()
+    }
+
+    // The number of a node that is declared.
+    pub(crate) fn declared(&self, number: u8) -> Result<u8, Refusal> {
+        if usize::from(number) < self.nodes.len() {
+            Ok(number)
+        } else {
+            Err(Refusal::NotDeclared)
         }
     }
-    0
-}
 
-// One message more on the way to a node, or one less.
-fn count_message(network: &mut Sheet, counted: usize, more: usize) {
-    add(
-        network,
-        plus(AWAITED, digit(counted, KIND)),
-        digit(counted, ADDRESSEE),
-        more,
-    );
-    add(network, COUNTS, UNDERWAY, more);
-}
-
-// Posts a message, if it is one.
-fn post(network: &mut Sheet, new: usize) {
-    if new > 0 {
-        let last = slot_before(network, count(network, UNDERWAY));
-        let slot = empty_slot(network);
-        set(network, NEXT, last, slot);
-        set(network, MESSAGE, slot, new);
-        count_message(network, new, 1);
-        add(network, COUNTS, POSTED, 1);
+    pub fn awaits(&self, node: u8, kind: Kind) -> bool {
+        self.messages.iter().any(|message| message.addressee == node && message.kind == kind)
     }
-}
 
-fn take_out(network: &mut Sheet, place: usize) {
-    let taken = message_at(network, place);
-    count_message(network, taken, ONE_LESS);
-    let lead = slot_before(network, place);
-    let slot = get(network, NEXT, lead);
-    let further = get(network, NEXT, slot);
-    set(network, NEXT, lead, further);
-    set(network, MESSAGE, slot, 0);
-}
-
-pub(crate) fn take(network: &mut Sheet, step: Step) -> usize {
-    if step.answer >= DECLARED {
-        set(network, WORD, step.node, step.after);
-        post(network, step.one);
-        post(network, step.two);
-    }
-    step.answer
-}
-
-fn is_taken(network: &Sheet, key: usize) -> bool {
-    for node in 0..count(network, NODES) {
-        if get(network, KEY, node) == key {
-            return true;
+    pub fn is_inserted(&self, node: u8) -> bool {
+        match self.node(node).status {
+            Status::Out => false,
+            Status::Ins => self.awaits(node, Kind::SetRAck),
+            Status::In => true,
+            Status::Del => !self.awaits(node, Kind::SetRAck),
         }
     }
-    false
-}
 
-fn how_many(network: &Sheet, wanted: usize) -> usize {
-    let mut many = 0;
-    for node in 0..count(network, NODES) {
-        if status(network, node) == wanted {
-            many = plus(many, 1);
+    fn are_all_out(&self) -> bool {
+        self.nodes.iter().all(|node| node.status == Status::Out)
+    }
+
+    // No node is in, some are not out, and nothing is under way: from here on no request is granted.
+    pub fn is_stuck(&self) -> bool {
+        self.messages.is_empty()
+            && !self.are_all_out()
+            && self.nodes.iter().all(|node| node.status != Status::In)
+    }
+
+    pub(crate) fn declare(&mut self, key: u32) -> Result<Answer, Refusal> {
+        if self.nodes.is_full() {
+            return Err(Refusal::NoRoom);
         }
+        if self.nodes.iter().any(|node| node.key == key) {
+            return Err(Refusal::KeyTaken);
+        }
+        let node = self.declared_nodes();
+        self.nodes.push(Node {
+            key,
+            ..Node::default()
+        });
+        Ok(Answer::Declared { node, key })
     }
-    many
-}
 
-fn are_all_out(network: &Sheet) -> bool {
-    how_many(network, OUT) == count(network, NODES)
-}
+    pub fn creation(&self, node: u8) -> Result<Step, Refusal> {
+        if !self.are_all_out() {
+            return Err(Refusal::NotAllOut);
+        }
+        if self.awaits(node, Kind::SetL) {
+            return Err(Refusal::NoticeWaits);
+        }
+        Ok(Step {
+            node,
+            after: Node {
+                key: self.node(node).key,
+                status: Status::In,
+                left: node,
+                right: node,
+                ..Node::default()
+            },
+            posts: [None, None],
+            outcome: Outcome::Created,
+        })
+    }
 
-// No node is in, some are not out, and nothing is under way: from here on no request is granted.
-pub fn is_stuck(network: &Sheet) -> bool {
-    if count(network, UNDERWAY) > 0 {
-        return false;
+    // A request of a node, which waits for its answer with this status and these links.
+    fn request(&self, node: u8, after: Node, request: Message) -> Result<Step, Refusal> {
+        if self.is_full() {
+            return Err(Refusal::QueueFull);
+        }
+        Ok(Step {
+            node,
+            after,
+            posts: [Some(request), None],
+            outcome: Outcome::Waiting,
+        })
     }
-    how_many(network, IN) == 0 && !are_all_out(network)
-}
 
-pub(crate) fn declare(network: &mut Sheet, key: usize) -> usize {
-    let node = count(network, NODES);
-    if node >= 32 {
-        return 20;
-    }
-    if is_taken(network, key) {
-        return 21;
-    }
-    set(network, KEY, node, key);
-    add(network, COUNTS, NODES, 1);
-    DECLARED
-}
-
-pub fn answer_to_create(network: &Sheet, node: usize) -> usize {
-    if !are_all_out(network) {
-        return 22;
-    }
-    if get(network, NOTICES, node) > 0 {
-        25
-    } else {
-        CREATED
-    }
-}
-
-pub(crate) fn creation(network: &Sheet, u: usize) -> Step {
-    Step {
-        answer: answer_to_create(network, u),
-        node: u,
-        after: node(IN, u, u, 0, 0),
-        one: 0,
-        two: 0,
-    }
-}
-
-// The key of the node is in (left, right): in [left, right), and not the left one's own.
-fn fits(network: &Sheet, node: usize, left: usize, right: usize) -> bool {
-    let key = get(network, KEY, node);
-    let from = get(network, KEY, left);
-    if key == from {
-        return false;
-    }
-    holds(from, get(network, KEY, right), key)
-}
-
-pub fn answer_to_join(network: &Sheet, node: usize, left: usize, right: usize) -> usize {
-    if status(network, node) != OUT {
-        return 23;
-    }
-    if !fits(network, node, left, right) {
-        return 24;
-    }
-    if get(network, NOTICES, node) > 0 {
-        return 25;
-    }
-    if count(network, UNDERWAY) >= FULL {
-        28
-    } else {
-        WAITING
-    }
-}
-
-pub(crate) fn joining(network: &Sheet, u: usize, p: usize, q: usize) -> Step {
-    let was = word(network, u);
-    let own = number(was, LEFT_NUMBER);
-    let after = node(INS, p, q, own, number(was, RIGHT_NUMBER));
-    Step {
-        answer: answer_to_join(network, u, p, q),
-        node: u,
-        after,
-        one: message(SETR, u, p, u, q, own),
-        two: 0,
-    }
-}
-
-pub fn answer_to_leave(network: &Sheet, node: usize) -> usize {
-    if status(network, node) != IN {
-        return 26;
-    }
-    if right(network, node) == node {
-        return ALONE;
-    }
-    if number(word(network, node), RIGHT_NUMBER) >= HIGHEST {
-        return 27;
-    }
-    if count(network, UNDERWAY) >= FULL {
-        28
-    } else {
-        WAITING
-    }
-}
-
-// A lone node posts nothing.
-pub(crate) fn leaving(network: &Sheet, u: usize) -> Step {
-    let at = word(network, u);
-    let answer = answer_to_leave(network, u);
-    let request = message(
-        SETR,
-        u,
-        digit(at, LEFT),
-        digit(at, RIGHT),
-        u,
-        plus(number(at, RIGHT_NUMBER), 1),
-    );
-    if answer == ALONE {
-        return Step {
-            answer,
-            node: u,
-            after: with_status(at, OUT),
-            one: 0,
-            two: 0,
+    pub fn joining(&self, node: u8, left: u8, right: u8) -> Result<Step, Refusal> {
+        let joiner = self.node(node);
+        let from = self.node(left).key;
+        if joiner.status != Status::Out {
+            return Err(Refusal::NotOut);
+        }
+        if joiner.key == from || !holds(from, self.node(right).key, joiner.key) {
+            return Err(Refusal::NotBetween);
+        }
+        if self.awaits(node, Kind::SetL) {
+            return Err(Refusal::NoticeWaits);
+        }
+        let after = Node {
+            status: Status::Ins,
+            left,
+            right,
+            ..joiner
         };
+        let request = Message {
+            kind: Kind::SetR,
+            sender: node,
+            addressee: left,
+            link: node,
+            expected: right,
+            number: joiner.left_number,
+        };
+        self.request(node, after, request)
     }
-    Step {
-        answer,
-        node: u,
-        after: with_status(at, DEL),
-        one: request,
-        two: 0,
-    }
-}
 
-pub fn answer_to_deliver(network: &Sheet, place: usize) -> usize {
-    let messages = count(network, UNDERWAY);
-    if place >= messages {
-        return 29;
+    pub fn leaving(&self, node: u8) -> Result<Step, Refusal> {
+        let leaver = self.node(node);
+        if leaver.status != Status::In {
+            return Err(Refusal::NotIn);
+        }
+        if leaver.right == node {
+            return Ok(Step {
+                node,
+                after: leaver.with_status(Status::Out),
+                posts: [None, None],
+                outcome: Outcome::Out,
+            });
+        }
+        let number = leaver
+            .right_number
+            .checked_add(1)
+            .ok_or(Refusal::LastNumber)?;
+        let request = Message {
+            kind: Kind::SetR,
+            sender: node,
+            addressee: leaver.left,
+            link: leaver.right,
+            expected: node,
+            number,
+        };
+        self.request(node, leaver.with_status(Status::Del), request)
     }
-    let taken = message_at(network, place);
-    let answer = outcome(word(network, digit(taken, ADDRESSEE)), taken);
-    if answer == GRANTED && messages >= FULL {
-        28
-    } else {
-        answer
+
+    pub fn delivery(&self, place: usize) -> Result<Step, Refusal> {
+        let message = self.messages.get(place).ok_or(Refusal::NoMessage)?;
+        let node = self.node(message.addressee);
+        let outcome = node.outcome(message);
+        if outcome == Outcome::Granted && self.is_full() {
+            return Err(Refusal::QueueFull);
+        }
+        Ok(Step {
+            node: message.addressee,
+            after: node.after(message, outcome),
+            posts: node.posts(message, outcome),
+            outcome,
+        })
     }
-}
 
-fn delivery(network: &Sheet, place: usize) -> Step {
-    let answer = answer_to_deliver(network, place);
-    let taken = message_at(network, place);
-    let u = digit(taken, ADDRESSEE);
-    let at = word(network, u);
-    Step {
-        answer,
-        node: u,
-        after: node_after(at, taken, answer),
-        one: first_post(at, taken, answer),
-        two: second_post(at, taken, answer),
-    }
-}
-
-pub(crate) fn deliver(network: &mut Sheet, place: usize) -> usize {
-    let step = delivery(network, place);
-    if step.answer >= DECLARED {
-        take_out(network, place);
-    }
-    take(network, step)
-}
-
-pub fn is_owner(network: &Sheet, node: usize, serial: usize) -> bool {
-    holds(
-        get(network, KEY, node),
-        get(network, KEY, right(network, node)),
-        serial,
-    )
-}
-
-// The node that so many hops lead to.
-pub fn after_hops(network: &Sheet, start: usize, hops: usize) -> usize {
-    let mut at = start;
-    for _ in 0..hops {
-        at = right(network, at);
-    }
-    at
-}
-
-// How many hops lead to the owner; as many as there are nodes where none is found.
-pub fn hops_to_owner(network: &Sheet, start: usize, serial: usize) -> usize {
-    let nodes = count(network, NODES);
-    for hops in 0..nodes {
-        if is_owner(network, after_hops(network, start, hops), serial) {
-            return hops;
+    fn post(&mut self, message: Message) {
+        if self.messages.try_push(message).is_ok() {
+            self.posted = self.posted.saturating_add(1);
         }
     }
-    nodes
-}
 
-fn answer_to_owner(network: &Sheet, start: usize, serial: usize) -> usize {
-    if !is_inserted(network, start) {
-        return 30;
-    }
-    if hops_to_owner(network, start, serial) < count(network, NODES) {
-        OWNER
-    } else {
-        31
-    }
-}
-
-// A question leaves everything as it is.
-pub(crate) fn question(network: &Sheet, start: usize, serial: usize) -> Step {
-    Step {
-        answer: answer_to_owner(network, start, serial),
-        node: start,
-        after: word(network, start),
-        one: 0,
-        two: 0,
-    }
-}
-
-// Delivers at the first place from 0 that does not refuse, and says whether there was one.
-fn deliver_lowest(network: &mut Sheet) -> bool {
-    for place in 0..count(network, UNDERWAY) {
-        if deliver(network, place) != 28 {
-            return true;
+    pub(crate) fn take(&mut self, step: Step) -> Outcome {
+        if let Some(node) = self.nodes.get_mut(usize::from(step.node)) {
+            *node = step.after;
         }
-        add(network, COUNTS, PASSED, 1);
-    }
-    false
-}
-
-pub(crate) fn drain(network: &mut Sheet, budget: usize) -> usize {
-    set(network, COUNTS, MADE, 0);
-    for _ in 0..budget {
-        if !deliver_lowest(network) {
-            return RAN;
+        for message in step.posts.iter().flatten() {
+            self.post(*message);
         }
-        add(network, COUNTS, MADE, 1);
+        step.outcome
     }
-    RAN
+
+    pub(crate) fn deliver(&mut self, place: usize) -> Result<Outcome, Refusal> {
+        let step = self.delivery(place)?;
+        self.messages.pop_at(place);
+        Ok(self.take(step))
+    }
+
+    // Delivers at the first place from 0 that does not refuse, and says whether there was one.
+    fn deliver_lowest(&mut self) -> bool {
+        let open = (0..self.messages.len()).find(|place| self.delivery(*place).is_ok());
+        let Some(place) = open else {
+            return false;
+        };
+        self.passed_over = self.passed_over.saturating_add(place);
+        self.deliver(place).is_ok()
+    }
+
+    pub(crate) fn drain(&mut self, budget: u16) -> Answer {
+        let deliveries = (0..budget).take_while(|_| self.deliver_lowest()).count();
+        Answer::Ran {
+            deliveries,
+            left: self.messages.len(),
+        }
+    }
+
+    // The owner of a serial, and how many hops lead to it from a start.
+    pub fn owner_from(&self, start: u8, serial: u32) -> Option<(usize, u8)> {
+        iter::successors(Some(start), |node| Some(self.node(*node).right))
+            .take(self.nodes.len())
+            .enumerate()
+            .find(|&(_, at)| {
+                let node = self.node(at);
+                holds(node.key, self.node(node.right).key, serial)
+            })
+    }
+
+    // The node that so many right links lead to from a start.
+    pub fn after_hops(&self, start: u8, hops: u8) -> u8 {
+        (0..hops).fold(start, |at, _| self.node(at).right)
+    }
+
+    pub(crate) fn owner(&self, start: u8, serial: u32) -> Result<Answer, Refusal> {
+        if !self.is_inserted(start) {
+            return Err(Refusal::NotInserted);
+        }
+        let (hops, node) = self.owner_from(start, serial).ok_or(Refusal::NotFound)?;
+        Ok(Answer::Owner { node, hops })
+    }
 }

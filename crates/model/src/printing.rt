@@ -1,46 +1,83 @@
 // The model's printout of any script, and where another printout differs from it.
-use crate::lines::*;
-use crate::network::*;
-use crate::reading::*;
-use crate::sheet::*;
-use crate::text::*;
+use crate::answer::Refusal;
+use crate::reading::Player;
+use std::fmt;
 
-pub const LONGEST: usize = 65536;
+pub const LONGEST: usize = 65_536;
 
-// The lines of the records of a script.
-fn print_records(sheet: &mut Sheet, script: &[u8], page: &mut Page, at: usize) -> usize {
-    let mut to = at;
-    for place in 0..script.len() {
-        let answer = feed(sheet, byte_at(script, place));
-        to = line(sheet, page, to, answer);
+// The lines of the records, numbered from 1.
+fn print_lines<W: fmt::Write>(player: &mut Player, script: &[u8], out: &mut W) -> fmt::Result {
+    let mut ordinal = 0usize;
+    for byte in script {
+        if let Some(line) = player.feed(*byte) {
+            ordinal = ordinal.saturating_add(1);
+            writeln!(out, "{ordinal} {line}")?;
+        }
     }
-    line(sheet, page, to, end(sheet))
+    if let Some(line) = player.end() {
+        ordinal = ordinal.saturating_add(1);
+        writeln!(out, "{ordinal} {line}")?;
+    }
+    Ok(())
 }
 
-// The printout of a script, from an empty network, and how long it is.
-fn print(sheet: &mut Sheet, script: &[u8], page: &mut Page) -> usize {
-    wipe(sheet);
-    let mut to = say(page, 0, b"ring 1\n", 0, 7, 0, 0);
+// The printout of a script, from an empty network.
+pub fn print<W: fmt::Write>(script: &[u8], out: &mut W) -> fmt::Result {
+    let mut player = Player::new();
+    writeln!(out, "ring 1")?;
     if script.len() > LONGEST {
-        to = say(page, to, b"0 no 7\n", 0, 7, 0, 0);
+        let refusal = Refusal::ScriptTooLong;
+        writeln!(out, "0 {refusal}")?;
     } else {
-        to = print_records(sheet, script, page, to);
+        print_lines(&mut player, script, out)?;
     }
-    say(
-        page,
-        to,
-        b"end # posted $\n",
-        0,
-        15,
-        count(sheet, UNDERWAY),
-        count(sheet, POSTED),
-    )
+    let network = player.network();
+    let waiting = network.waiting();
+    let posted = network.posted();
+    writeln!(out, "end {waiting} posted {posted}")
 }
 
-// Where another printout of a script differs first from the model's, counted from 1; 0 where the
-// two are the same.
-pub fn first_difference(sheet: &mut Sheet, script: &[u8], other: &Page, length: usize) -> usize {
-    let mut own: Page = [0u8; 1048576];
-    let own_length = print(sheet, script, &mut own);
-    difference(&own, own_length, other, length)
+// A printout that another is held against as it is written: it takes what is the same, and fails
+// where the two differ.
+#[derive(Drop)]
+struct Printout<'a> {
+    rest: &'a [u8],
+    same: usize,
+}
+
+impl fmt::Write for Printout<'_> {
+    fn write_str(&mut self, text: &str) -> fmt::Result {
+        let written = text.as_bytes();
+        match self.rest.strip_prefix(written) {
+            Some(rest) => {
+                self.rest = rest;
+                self.same = self.same.saturating_add(written.len());
+                Ok(())
+            }
+            None => {
+                let agreeing = self
+                    .rest
+                    .iter()
+                    .zip(written)
+                    .take_while(|(a, b)| a == b)
+                    .count();
+                self.same = self.same.saturating_add(agreeing);
+                Err(fmt::Error)
+            }
+        }
+    }
+}
+
+// Where another printout of a script differs first from the model's, counted from 1.
+pub fn first_difference(script: &[u8], other: &[u8]) -> Option<usize> {
+    let mut printout = Printout {
+        rest: other,
+        same: 0,
+    };
+    let written = print(script, &mut printout);
+    if written.is_ok() && printout.rest.is_empty() {
+        None
+    } else {
+        Some(printout.same.saturating_add(1))
+    }
 }

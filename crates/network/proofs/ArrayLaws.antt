@@ -1,6 +1,7 @@
 -- The arrays and the lists of a network say the same: the lists that `held` puts into arrays come
 -- out of them by `live`, and a well-formed network is what `held` makes of its own lists. Assumes
 -- nothing.
+use Rattle.std.specs.Prelude.{Some, None}
 use mathlib.Core.Path.{◌≡◌, refl}
 use mathlib.Core.Bool.{Bool, true, not, ◌&&◌}
 use mathlib.Core.List.{List, [], ◌∷◌}
@@ -15,14 +16,10 @@ use Rattle.predicates.proofs.Laws.{both, impossible}
 use Rattle.predicates.proofs.TestLaws.{holds, is_true}
 use Rattle.sequence.specs.Sequence.{first_seq, same}
 use Rattle.sequence.proofs.Laws.{same_iff}
-use Rattle.parts.specs.declared.Link.{Link}
-use Rattle.parts.specs.declared.Link.TheVariants.{Unlinked, To}
-use Rattle.parts.specs.declared.Seq.{Seq}
-use Rattle.parts.specs.declared.Seq.TheVariants.{Unset, Is}
 use Rattle.parts.specs.declared.Kind.{Kind}
 use Rattle.parts.specs.declared.Kind.TheVariants.{SetR, SetRAck, SetRNak, SetL}
 use Rattle.parts.specs.declared.Message.{Message}
-use Rattle.parts.specs.Tests.{is_out, linked, numbered, is_nak}
+use Rattle.parts.specs.Tests.{Link, Seq, is_out, linked, numbered, is_nak}
 use Rattle.node.specs.declared.Node.{Node}
 use Rattle.node.specs.Shape.{capacity}
 use Rattle.node.proofs.ActionLaws.{tested_out}
@@ -56,13 +53,13 @@ module _ {A : Type 0} (vacant : A) (test : A → Bool) where
       rw (front, rest, ← all-vacant only (drop k l) h) (take-append-drop k l)
 
 -- ---- the tests of every field pass what is vacant, and nothing else
-no-link : (link : Link) → not (linked link) ≡ true → link ≡ Unlinked
-no-link Unlinked t = refl
-no-link (To n) t = impossible t
+no-link : (link : Link) → not (linked link) ≡ true → link ≡ None
+no-link None t = refl
+no-link (Some n) t = impossible t
 
-no_number : (number : Seq) → not (numbered number) ≡ true → number ≡ Unset
-no_number Unset t = refl
-no_number (Is n) t = impossible t
+no_number : (number : Seq) → not (numbered number) ≡ true → number ≡ None
+no_number None t = refl
+no_number (Some n) t = impossible t
 
 nak_kind : (kind : Kind) → is_nak kind ≡ true → kind ≡ SetRNak
 nak_kind (SetR new expected number) t = impossible t

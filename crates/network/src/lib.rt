@@ -1,13 +1,14 @@
-// A network (paper 01: a floor) in fixed arrays: its nodes and its waiting messages, and whether it
-// is well formed. `specs/` says which lists the arrays hold; the calls on a network, and the
-// questions it is asked, stand in crates above.
+// A network (paper 01: a floor) in fixed arrays: its nodes and its waiting messages, which are read
+// as slices, and whether it is well formed. `specs/` says which lists the arrays hold; the calls on
+// a network, and the questions it is asked, stand in crates above.
 #![tactic(auto)]
 
-ghost use Rattle.std.specs.Prelude.{◌≡◌};
-ghost use Rattle.network.specs.Arrays.{empty};
+ghost use Rattle.std.specs.Prelude.{◌≡◌, ◌≤◌, length, take};
+ghost use Rattle.network.specs.Arrays.{empty, live};
+ghost use Rattle.network.specs.Reads.{node_in, message_in};
 
 use node::Node;
-use parts::{Kind, Link, Message, Seq, Status};
+use parts::{Kind, Message, Status};
 
 mod shape;
 
@@ -18,7 +19,7 @@ pub const QUEUE_LIMIT: u8 = 64;
 
 // The first `count` nodes are declared, and a node's number is its place; the first `waiting`
 // messages wait, in the order posted.
-#[derive(Clone, Copy)]
+#[derive(Clone, Copy, Debug, PartialEq, Eq)]
 pub struct Network {
     pub nodes: [Node; 32],
     pub count: u8,
@@ -31,10 +32,10 @@ pub struct Network {
 const VACANT_NODE: Node = Node {
     status: Status::Out,
     key: 0,
-    left: Link::Unlinked,
-    right: Link::Unlinked,
+    left: None,
+    right: None,
     lseq: sequence::FIRST,
-    rseq: Seq::Unset,
+    rseq: None,
 };
 
 const VACANT_NODES: [Node; 32] = [VACANT_NODE; 32];
@@ -48,6 +49,7 @@ pub const VACANT_MESSAGE: Message = Message {
 const VACANT_MESSAGES: [Message; 64] = [VACANT_MESSAGE; 64];
 
 impl Network {
+    #[tactic(auto, unfolding(sequence::specs::Sequence::first_seq))]
     pub fn empty() -> Network
         ensures { result ≡ empty }
     {
@@ -57,5 +59,34 @@ impl Network {
             messages: VACANT_MESSAGES,
             waiting: 0,
         }
+    }
+
+    // The nodes declared. A count past an array is cut.
+    pub fn declared(&self) -> &[Node]
+        ensures nodes { result.now ≡ (live self.now).nodes }
+        ensures few { length result.now ≤ 32 }
+    {
+        &self.nodes[..self.count.min(CAPACITY) as usize]
+    }
+
+    // The messages that wait.
+    pub fn queue(&self) -> &[Message]
+        ensures messages { result.now ≡ (live self.now).messages }
+        ensures few { length result.now ≤ 64 }
+    {
+        &self.messages[..self.waiting.min(QUEUE_LIMIT) as usize]
+    }
+
+    // The node in a place. A number past an array counts from its beginning again.
+    pub fn node(&self, number: u8) -> Node
+        ensures { result ≡ node_in self.now number }
+    {
+        self.nodes[(number % CAPACITY) as usize]
+    }
+
+    pub fn message(&self, place: u8) -> Message
+        ensures { result ≡ message_in self.now place }
+    {
+        self.messages[(place % QUEUE_LIMIT) as usize]
     }
 }

@@ -1,4 +1,5 @@
 -- Laws of the actions, for the proofs of those who build on a node's step. Assumes nothing.
+use Rattle.std.specs.Prelude.{Some, None}
 use mathlib.Core.Path.{◌≡◌, refl, ap}
 use mathlib.Core.Logic.{◌≢◌}
 use mathlib.Core.Bool.{true, false, not, ◌&&◌}
@@ -11,10 +12,8 @@ use Rattle.sequence.specs.Sequence.{next_seq, has_next, capped_next}
 use Rattle.sequence.proofs.Laws.{capped-next}
 use Rattle.parts.specs.declared.Status.{Status}
 use Rattle.parts.specs.declared.Status.TheVariants.{Out, Ins, In, Del}
-use Rattle.parts.specs.declared.Link.{Link}
-use Rattle.parts.specs.declared.Link.TheVariants.{Unlinked, To}
 use Rattle.parts.specs.declared.Message.{Message}
-use Rattle.parts.specs.Tests.{is_out, is_in, target, links_to, seq_of}
+use Rattle.parts.specs.Tests.{Link, is_out, is_in, target, links_to, seq_of}
 use Rattle.node.specs.declared.Node.{Node}
 use Rattle.node.specs.declared.Peer.{Peer}
 use Rattle.node.specs.declared.Outcome.TheVariants.{Created, Waiting, LeftAlone}
@@ -34,9 +33,9 @@ tested_in Ins h = impossible h
 tested_in In h = refl
 tested_in Del h = impossible h
 
-pub tested-link : (l : Link) (n : ℕ) → links_to l n ≡ true → l ≡ To n
-tested-link Unlinked n h = impossible h
-tested-link (To m) n h = ap To (eqb-true m n h)
+pub tested-link : (l : Link) (n : ℕ) → links_to l n ≡ true → l ≡ Some n
+tested-link None n h = impossible h
+tested-link (Some m) n h = ap Some (eqb-true m n h)
 
 -- what a granted request shows of the node that grants it
 pub record Grant (p : Node) (v new expected : ℕ) : Type 0 where

@@ -1,12 +1,13 @@
 -- What an effect says fixes the whole answer of a step: two answers that say the same are the same.
 -- So a contract that gives a step's effect leaves nothing of the answer open. Assumes nothing.
 use mathlib.Core.Path.{◌≡◌, refl, ap}
+use Rattle.std.specs.Prelude.{Result, Ok, Err}
+use Rattle.refusal.specs.declared.Refusal.{Refusal}
 use Rattle.refusal.proofs.Laws.{reason_injective}
 use Rattle.parts.specs.declared.Posts.{Posts}
 use Rattle.parts.specs.declared.Posts.TheVariants.{Nothing, One, Two}
 use Rattle.parts.specs.Posts.{posted}
-use Rattle.node.specs.declared.Verdict.{Verdict}
-use Rattle.node.specs.declared.Verdict.TheVariants.{Done, Refused}
+use Rattle.node.specs.declared.Outcome.{Outcome}
 use Rattle.node.specs.declared.Step.{Step}
 use Rattle.node.specs.Actions.{Effect, coded, effect}
 
@@ -21,11 +22,11 @@ posted_injective (Two m n) Nothing e = cc
 posted_injective (Two m n) (One k) e = cc
 posted_injective (Two m n) (Two k l) e = cc
 
-coded_injective : (a b : Verdict) → coded a ≡ coded b → a ≡ b
-coded_injective (Done o) (Done p) e = cc
-coded_injective (Done o) (Refused r) e = cc
-coded_injective (Refused r) (Done o) e = cc
-coded_injective (Refused r) (Refused s) e = ap Refused (reason_injective r s cc)
+coded_injective : (a b : Result Outcome Refusal) → coded a ≡ coded b → a ≡ b
+coded_injective (Ok o) (Ok p) e = cc
+coded_injective (Ok o) (Err r) e = cc
+coded_injective (Err r) (Ok o) e = cc
+coded_injective (Err r) (Err s) e = ap Err (reason_injective r s cc)
 
 pub effect_injective : (s t : Step) → effect s ≡ effect t → s ≡ t
 effect_injective s t e = λ i. record {

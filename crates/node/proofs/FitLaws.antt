@@ -1,10 +1,11 @@
 -- A step keeps things well formed: among any number of nodes, a node that fits is left as one that
 -- fits, and what it posts fits. So no step of a well-formed node leads to a refusal 6 of the next,
 -- and whoever holds many nodes has their part of it here. Assumes nothing.
+use Rattle.std.specs.Prelude.{Some, None}
 use mathlib.Core.Path.{◌≡◌, refl, ap}
 use mathlib.Core.Bool.{Bool, true, false, not, ◌&&◌, ◌||◌, cond}
 use mathlib.Core.List.{List, [], ◌∷◌}
-use mathlib.Core.Option.{Option, none, some}
+use Rattle.std.specs.Prelude.{Option, None, Some}
 use Prim.Native.Nat.{ℕ, ◌≤◌, ◌<◌}
 use native.Mathlib.Omega.{arith}
 use lib.Dec.{ltb, eqb}
@@ -17,15 +18,11 @@ use Rattle.serial.specs.Serial.{in_range}
 use Rattle.sequence.specs.Sequence.{next_seq, newer}
 use Rattle.parts.specs.declared.Status.{Status}
 use Rattle.parts.specs.declared.Status.TheVariants.{Out, Ins, In, Del}
-use Rattle.parts.specs.declared.Link.{Link}
-use Rattle.parts.specs.declared.Link.TheVariants.{Unlinked, To}
-use Rattle.parts.specs.declared.Seq.{Seq}
-use Rattle.parts.specs.declared.Seq.TheVariants.{Unset, Is}
 use Rattle.parts.specs.declared.Kind.{Kind}
 use Rattle.parts.specs.declared.Kind.TheVariants.{SetR, SetRAck, SetRNak, SetL}
 use Rattle.parts.specs.declared.Message.{Message}
 use Rattle.parts.specs.Shape.{link_fits, kind_fits, message_fits}
-use Rattle.parts.specs.Tests.{is_out, is_in, is_in_or_del, linked, numbered, target, seq_of, links_to}
+use Rattle.parts.specs.Tests.{Link, Seq, is_out, is_in, is_in_or_del, linked, numbered, target, seq_of, links_to}
 use Rattle.node.specs.declared.Node.{Node}
 use Rattle.node.specs.declared.Peer.{Peer}
 use Rattle.node.specs.Shape.{node_fits, capacity, well_formed, deliverable, peer_fits}
@@ -81,9 +78,9 @@ pub record EffectFits (count : ℕ) (e : Effect) : Type 0 where
   pub node : NodeFits count e.node
   pub posts : PostsFit count e.posts
 
-ruled-fits : {count : ℕ} {u : Node} → NodeFits count u → (o : Option Reason) (accepted : Effect) → (o ≡ none → EffectFits count accepted) → EffectFits count (unless_refused o (refused u) accepted)
-ruled-fits f none accepted g = g refl
-ruled-fits f (some n) accepted g = record { node = f; posts = tt }
+ruled-fits : {count : ℕ} {u : Node} → NodeFits count u → (o : Option Reason) (accepted : Effect) → (o ≡ None → EffectFits count accepted) → EffectFits count (unless_refused o (refused u) accepted)
+ruled-fits f None accepted g = g refl
+ruled-fits f (Some n) accepted g = record { node = f; posts = tt }
 
 cond-fits : {count : ℕ} (b : Bool) (x y : Effect) → (b ≡ true → EffectFits count x) → (b ≡ false → EffectFits count y) → EffectFits count (cond b x y)
 cond-fits true x y f g = f refl
@@ -97,12 +94,12 @@ in_is_not_out In h = (refl, refl)
 in_is_not_out Del h = impossible h
 
 target_fits : (count : ℕ) (l : Link) → linked l ≡ true → link_fits count l ≡ true → ltb (target l) count ≡ true
-target_fits count Unlinked h k = impossible h
-target_fits count (To n) h k = k
+target_fits count None h k = impossible h
+target_fits count (Some n) h k = k
 
 is-linked : (l : Link) (n : ℕ) → links_to l n ≡ true → linked l ≡ true
-is-linked Unlinked n h = impossible h
-is-linked (To m) n h = refl
+is-linked None n h = impossible h
+is-linked (Some m) n h = refl
 
 second_is_enough : (p q r : Bool) → (p || (q && r)) ≡ true → (p || (true && r)) ≡ true
 second_is_enough true q r h = refl
@@ -166,7 +163,7 @@ module _ (count me : ℕ) (me-in : ltb me count ≡ true) (u : Node) (f : NodeFi
   unfolding leave_of
   leave_fits = ruled-fits f (first (leave_rules me u)) (leaving me u) (λ clear. cond-fits (alone me u) _ _ (λ _. record { node = out-fits f; posts = tt }) (λ _. by-request (is-in clear)))
     where
-      is-in : first (leave_rules me u) ≡ none → is_in u.status ≡ true
+      is-in : first (leave_rules me u) ≡ None → is_in u.status ≡ true
       is-in clear = let (_, (inside, _)) = cleared (leave_rules me u) clear in not-false (is_in u.status) inside
 
       by-request : is_in u.status ≡ true → EffectFits count (posting (with_status Del u) (leave_request me u (next_seq (seq_of u.rseq))) Waiting)
@@ -225,22 +222,22 @@ module _ (count me : ℕ) (me-in : ltb me count ≡ true) (u : Node) (f : NodeFi
 
 -- ---- what a node that fits has: its links unless it is out, its right number while it is in or
 -- del
-link-named : (l : Link) → linked l ≡ true → l ≡ To (target l)
-link-named Unlinked h = impossible h
-link-named (To n) h = refl
+link-named : (l : Link) → linked l ≡ true → l ≡ Some (target l)
+link-named None h = impossible h
+link-named (Some n) h = refl
 
-seq-named : (q : Seq) → numbered q ≡ true → q ≡ Is (seq_of q)
-seq-named Unset h = impossible h
-seq-named (Is n) h = refl
+seq-named : (q : Seq) → numbered q ≡ true → q ≡ Some (seq_of q)
+seq-named None h = impossible h
+seq-named (Some n) h = refl
 
 module _ {count : ℕ} {u : Node} (f : NodeFits count u) where
-  pub left-named : is_out u.status ≡ false → u.left ≡ To (target u.left)
+  pub left-named : is_out u.status ≡ false → u.left ≡ Some (target u.left)
   left-named e = link-named u.left (both-linked f e).0
 
-  pub right-named : is_out u.status ≡ false → u.right ≡ To (target u.right)
+  pub right-named : is_out u.status ≡ false → u.right ≡ Some (target u.right)
   right-named e = link-named u.right (both-linked f e).1
 
-  pub number-named : is_in_or_del u.status ≡ true → u.rseq ≡ Is (seq_of u.rseq)
+  pub number-named : is_in_or_del u.status ≡ true → u.rseq ≡ Some (seq_of u.rseq)
   number-named e = seq-named u.rseq (not_left (not (is_in_or_del u.status)) (numbered u.rseq) (ap not e) f.seq)
 
 -- ---- what fits among some nodes fits among more
@@ -249,8 +246,8 @@ module _ {count more : ℕ} (le : count ≤ more) where
   number-fits-more n h = let k = ltb-true n count h in lt-ltb n more (omega arith)
 
   link-fits-more : (l : Link) → link_fits count l ≡ true → link_fits more l ≡ true
-  link-fits-more Unlinked h = refl
-  link-fits-more (To n) h = number-fits-more n h
+  link-fits-more None h = refl
+  link-fits-more (Some n) h = number-fits-more n h
 
   kind-fits-more : (kind : Kind) → kind_fits count kind ≡ true → kind_fits more kind ≡ true
   kind-fits-more (SetR new expected number) h =

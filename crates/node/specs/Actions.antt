@@ -1,16 +1,13 @@
 -- What one node does with an order or a message (docs/RULES.md, section 5), in the order of the
 -- rules, each with its refusals (R6.4) before it. Every definition fixes the whole node, every
 -- message and the outcome. Definitions only.
-use Rattle.std.specs.Prelude.{ℕ, Bool, false, not, ◌&&◌, ◌||◌, cond, List, [], ◌∷◌, eqb}
+use Rattle.std.specs.Prelude.{ℕ, Bool, false, not, ◌&&◌, ◌||◌, cond, List, [], ◌∷◌, eqb, Some, Result, Ok, Err}
+use Rattle.refusal.specs.declared.Refusal.{Refusal}
 use Rattle.refusal.specs.Code.{Reason, reason}
 use Rattle.refusal.specs.Rules.{Coded, done, no, Rule, ◌when◌, ruled}
 use Rattle.interval.specs.Interval.{between}
 use Rattle.parts.specs.declared.Status.{Status}
 use Rattle.parts.specs.declared.Status.TheVariants.{Out, Ins, In, Del}
-use Rattle.parts.specs.declared.Link.{Link}
-use Rattle.parts.specs.declared.Link.TheVariants.{To}
-use Rattle.parts.specs.declared.Seq.{Seq}
-use Rattle.parts.specs.declared.Seq.TheVariants.{Is}
 use Rattle.parts.specs.declared.Kind.{Kind}
 use Rattle.parts.specs.declared.Kind.TheVariants.{SetR, SetRAck, SetRNak, SetL}
 use Rattle.parts.specs.declared.Message.{Message}
@@ -18,11 +15,9 @@ use Rattle.node.specs.declared.Node.{Node}
 use Rattle.node.specs.declared.Peer.{Peer}
 use Rattle.node.specs.declared.Outcome.{Outcome}
 use Rattle.node.specs.declared.Outcome.TheVariants.{Created, Waiting, LeftAlone, Granted, Denied, Joined, Gone, JoinDenied, LeaveDenied, LeftSet, LeftOld, Dropped}
-use Rattle.node.specs.declared.Verdict.{Verdict}
-use Rattle.node.specs.declared.Verdict.TheVariants.{Done, Refused}
 use Rattle.node.specs.declared.Step.{Step}
 use Rattle.sequence.specs.Sequence.{Number, first_seq, next_seq, newer, has_next, capped_next}
-use Rattle.parts.specs.Tests.{is_out, is_in, links_to, target, seq_of}
+use Rattle.parts.specs.Tests.{Link, Seq, is_out, is_in, links_to, target, seq_of}
 use Rattle.parts.specs.Posts.{posted}
 use Rattle.node.specs.Shape.{well_formed, deliverable, peer_fits}
 
@@ -35,9 +30,9 @@ pub record Effect : Type 0 where
   pub said : Coded Outcome
 
 -- R11.3: what the code's verdict says
-abbrev pub coded : Verdict → Coded Outcome
-coded (Done o) = done o
-coded (Refused r) = no (reason r)
+abbrev pub coded : Result Outcome Refusal → Coded Outcome
+coded (Ok o) = done o
+coded (Err r) = no (reason r)
 
 -- R1.9, R11.3: what the code's answer says
 abbrev pub effect : Step → Effect
@@ -86,7 +81,7 @@ create_rules me u = (6 when not (well_formed me u)) ∷ (23 when not (is_out u.s
 
 -- R5.1: linked to itself, both numbers the first, in
 abbrev pub created : ℕ → Node → Node
-created me u = with_status In (with_right (To me) (Is first_seq) (with_left (To me) first_seq u))
+created me u = with_status In (with_right (Some me) (Some first_seq) (with_left (Some me) first_seq u))
 
 -- R5.1: with no message
 abbrev pub creating : ℕ → Node → Effect
@@ -107,7 +102,7 @@ join_rules me u p q = (6 when not (well_formed me u && (peer_fits p && peer_fits
 
 -- R5.2: between p and q, ins
 abbrev pub joining : Node → Peer → Peer → Node
-joining u p q = with_status Ins (with_right (To q.number) u.rseq (with_left (To p.number) u.lseq u))
+joining u p q = with_status Ins (with_right (Some q.number) u.rseq (with_left (Some p.number) u.lseq u))
 
 -- R5.2: p is asked to take u for q, with the left number that u has
 abbrev pub join_request : ℕ → Node → Peer → Peer → Message
@@ -184,7 +179,7 @@ ack me p v = set_r_ack me v (capped_next (seq_of p.rseq))
 
 -- R5.8: the right link is new, and the right number the request's
 abbrev pub relinked : Node → ℕ → Number → Node
-relinked p new number = with_right (To new) (Is number) p
+relinked p new number = with_right (Some new) (Some number) p
 
 -- R5.6, R5.7, R5.8: the notice is posted first, and then the answer
 abbrev pub granting : Node → Message → Message → Effect
@@ -204,7 +199,7 @@ on_set_r me p v new expected number =
 -- ---- SetRAck
 -- R5.10: a joiner is in, with the number of the answer
 abbrev pub confirmed : Node → Number → Node
-confirmed u number = with_status In (with_right u.right (Is number) u)
+confirmed u number = with_status In (with_right u.right (Some number) u)
 
 -- R5.10: a joiner has joined, a leaver is gone; R5.13, R5.14: the others drop it
 abbrev pub on_set_r_ack : Status → Node → Number → Effect
@@ -224,7 +219,7 @@ on_set_r_nak Del u = quiet (with_status In u) LeaveDenied
 -- ---- SetL
 -- R5.12: left link and left number are set
 abbrev pub left_set : Node → ℕ → Number → Node
-left_set u left number = with_left (To left) number u
+left_set u left number = with_left (Some left) number u
 
 -- R5.12: if its number is newer than the left number, and else it changes nothing
 abbrev pub on_set_l : Node → ℕ → Number → Effect

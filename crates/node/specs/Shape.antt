@@ -1,11 +1,9 @@
 -- The record of a node just declared, and when a node, a message or a neighbour handed in to a
 -- single step is well formed (paper 01: in shape). Refusal 6 is given exactly where it is not.
 -- Definitions only.
-use Rattle.std.specs.Prelude.{ℕ, Bool, ◌&&◌, ltb, eqb}
+use Rattle.std.specs.Prelude.{ℕ, Bool, ◌&&◌, ltb, eqb, None}
 use Rattle.serial.specs.Serial.{in_range}
 use Rattle.parts.specs.declared.Status.TheVariants.{Out}
-use Rattle.parts.specs.declared.Link.TheVariants.{Unlinked}
-use Rattle.parts.specs.declared.Seq.TheVariants.{Unset}
 use Rattle.parts.specs.declared.Message.{Message}
 use Rattle.node.specs.declared.Node.{Node}
 use Rattle.node.specs.declared.Peer.{Peer}
@@ -14,7 +12,7 @@ use Rattle.parts.specs.Shape.{links_fit, message_fits}
 
 -- R1.4: how a node begins
 abbrev pub declared_of : ℕ → Node
-declared_of key = record { status = Out; key = key; left = Unlinked; right = Unlinked; lseq = first_seq; rseq = Unset }
+declared_of key = record { status = Out; key = key; left = None; right = None; lseq = first_seq; rseq = None }
 
 -- ---- well-formedness among the first `count` nodes
 -- R2.4, R2.5, R2.6: its key, its links and its right number

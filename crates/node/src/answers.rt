@@ -3,24 +3,22 @@ ghost use Rattle.std.specs.Prelude.{◌≡◌};
 ghost use Rattle.node.specs.Actions.{effect, on_set_r_ack, on_set_r_nak};
 
 use crate::{Node, Outcome, Step, steps};
-use parts::{Seq, Status};
+use parts::Status;
 use sequence::Number;
 
 pub fn on_set_r_ack(node: Node, number: Number) -> Step
     ensures { effect result ≡ on_set_r_ack node.status node number }
 {
-    let status = node.status;
-    match status {
-        Status::Out => steps::silent(node, Outcome::Dropped),
+    match node.status {
+        Status::Out | Status::In => steps::silent(node, Outcome::Dropped),
         Status::Ins => {
             let joined = Node {
                 status: Status::In,
-                rseq: Seq::Is(number),
+                rseq: Some(number),
                 ..node
             };
             steps::silent(joined, Outcome::Joined)
         }
-        Status::In => steps::silent(node, Outcome::Dropped),
         Status::Del => {
             let gone = Node {
                 status: Status::Out,
@@ -34,9 +32,8 @@ pub fn on_set_r_ack(node: Node, number: Number) -> Step
 pub fn on_set_r_nak(node: Node) -> Step
     ensures { effect result ≡ on_set_r_nak node.status node }
 {
-    let status = node.status;
-    match status {
-        Status::Out => steps::silent(node, Outcome::Dropped),
+    match node.status {
+        Status::Out | Status::In => steps::silent(node, Outcome::Dropped),
         Status::Ins => {
             let stays_out = Node {
                 status: Status::Out,
@@ -44,7 +41,6 @@ pub fn on_set_r_nak(node: Node) -> Step
             };
             steps::silent(stays_out, Outcome::JoinDenied)
         }
-        Status::In => steps::silent(node, Outcome::Dropped),
         Status::Del => {
             let stays_in = Node {
                 status: Status::In,

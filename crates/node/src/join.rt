@@ -3,16 +3,16 @@ ghost use Rattle.std.specs.Prelude.{◌≡◌};
 ghost use Rattle.node.specs.Actions.{effect, join_unchecked, join_of};
 
 use crate::{Node, Outcome, Peer, Step, shape, steps};
-use parts::{Kind, Link, Message, Status};
+use parts::{Kind, Message, Status};
 use refusal::Refusal;
 
 impl Node {
     // A join with no test of node or neighbours.
+    #[tactic(auto, unfolding(crate::specs::Actions::join_unchecked))]
     pub fn join_unchecked(self, me: u8, left: Peer, right: Peer) -> Step
         ensures { effect result ≡ join_unchecked me self left right }
     {
-        let status = self.status;
-        if !status.is_out() {
+        if self.status != Status::Out {
             return steps::refuse(self, Refusal::NotOut);
         }
         if !interval::is_between(left.key, right.key, self.key) {
@@ -20,8 +20,8 @@ impl Node {
         }
         let joining = Node {
             status: Status::Ins,
-            left: Link::To(left.number),
-            right: Link::To(right.number),
+            left: Some(left.number),
+            right: Some(right.number),
             ..self
         };
         let request = Message {
@@ -36,6 +36,7 @@ impl Node {
         steps::posts_one(joining, request, Outcome::Waiting)
     }
 
+    #[tactic(auto, unfolding(crate::specs::Actions::join_of, crate::specs::Actions::join_unchecked))]
     pub fn join(self, me: u8, left: Peer, right: Peer) -> Step
         ensures { effect result ≡ join_of me self left right }
     {

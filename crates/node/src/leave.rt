@@ -9,18 +9,15 @@ use refusal::Refusal;
 
 impl Node {
     // A leave with no test of the node.
+    #[tactic(auto, unfolding(crate::specs::Actions::leave_unchecked), using(crate::proofs::ActionLaws::leave_asks))]
     pub fn leave_unchecked(self, me: u8) -> Step
         ensures { effect result ≡ leave_unchecked me self }
     {
-        let status = self.status;
-        let left = self.left;
-        let right = self.right;
-        let rseq = self.rseq;
-        let last = rseq.number();
-        if !status.is_in() {
+        let last = self.right_number();
+        if self.status != Status::In {
             return steps::refuse(self, Refusal::NotIn);
         }
-        if right.links_to(me) {
+        if self.right == Some(me) {
             let alone = Node {
                 status: Status::Out,
                 ..self
@@ -36,9 +33,9 @@ impl Node {
         };
         let request = Message {
             sender: me,
-            to: left.target(),
+            to: self.left.unwrap_or(0),
             kind: Kind::SetR {
-                new: right.target(),
+                new: self.right.unwrap_or(0),
                 expected: me,
                 number: sequence::capped_next(last),
             },
@@ -46,6 +43,7 @@ impl Node {
         steps::posts_one(leaving, request, Outcome::Waiting)
     }
 
+    #[tactic(auto, unfolding(crate::specs::Actions::leave_of, crate::specs::Actions::leave_unchecked))]
     pub fn leave(self, me: u8) -> Step
         ensures { effect result ≡ leave_of me self }
     {

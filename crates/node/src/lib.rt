@@ -19,7 +19,7 @@ mod shape;
 mod steps;
 
 // R1.3.
-#[derive(Clone, Copy)]
+#[derive(Clone, Copy, Debug, PartialEq, Eq)]
 pub struct Node {
     pub key: u32,
     pub left: Link,
@@ -30,14 +30,14 @@ pub struct Node {
 }
 
 // A neighbour that a join is handed: its number and its key.
-#[derive(Clone, Copy)]
+#[derive(Clone, Copy, Debug, PartialEq, Eq)]
 pub struct Peer {
     pub number: u8,
     pub key: u32,
 }
 
 // What a step did, where it was not refused: the outcomes of section 5.
-#[derive(Clone, Copy)]
+#[derive(Clone, Copy, Debug, PartialEq, Eq)]
 pub enum Outcome {
     Created,
     Waiting,
@@ -54,14 +54,8 @@ pub enum Outcome {
 }
 
 #[derive(Clone, Copy)]
-pub enum Verdict {
-    Done(Outcome),
-    Refused(Refusal),
-}
-
-#[derive(Clone, Copy)]
 pub struct Step {
     pub node: Node,
     pub posts: Posts,
-    pub verdict: Verdict,
+    pub verdict: Result<Outcome, Refusal>,
 }

@@ -3,7 +3,7 @@ ghost use Rattle.std.specs.Prelude.{◌≡◌};
 ghost use Rattle.node.specs.Actions.{effect, set_r, set_r_ack, set_r_nak, set_l, act_of, receive_of};
 
 use crate::{Node, Outcome, Step, answers, set_l, set_r, shape, steps};
-use parts::{Kind, Message};
+use parts::{Kind, Message, Status};
 use refusal::Refusal;
 use sequence::Number;
 
@@ -13,8 +13,7 @@ impl Node {
     pub fn act(self, me: u8, sender: u8, kind: Kind) -> Step
         ensures { effect result ≡ act_of me self sender kind }
     {
-        let status = self.status;
-        if status.is_out() {
+        if self.status == Status::Out {
             return steps::silent(self, Outcome::Dropped);
         }
         match kind {
@@ -30,14 +29,14 @@ impl Node {
     }
 
     // Any message, by its kind.
+    #[tactic(auto, unfolding(crate::specs::Actions::receive_of))]
     pub fn receive(self, me: u8, message: Message) -> Step
         ensures { effect result ≡ receive_of me self message }
     {
-        let kind = message.kind;
         if !(shape::is_well_formed(self, me) & shape::is_deliverable(message, me)) {
             return steps::refuse(self, Refusal::Malformed);
         }
-        self.act(me, message.sender, kind)
+        self.act(me, message.sender, message.kind)
     }
 
     pub fn receive_set_r(

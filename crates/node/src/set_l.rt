@@ -3,7 +3,6 @@ ghost use Rattle.std.specs.Prelude.{◌≡◌};
 ghost use Rattle.node.specs.Actions.{effect, on_set_l};
 
 use crate::{Node, Outcome, Step, steps};
-use parts::Link;
 use sequence::Number;
 
 pub fn on_set_l(node: Node, left: u8, number: Number) -> Step
@@ -11,7 +10,7 @@ pub fn on_set_l(node: Node, left: u8, number: Number) -> Step
 {
     if sequence::is_newer(number, node.lseq) {
         let relinked = Node {
-            left: Link::To(left),
+            left: Some(left),
             lseq: number,
             ..node
         };

@@ -1,35 +1,36 @@
 // SetR (R5.5, R5.6, R5.7, R5.8, R5.9): a node grants or denies a request to change its right link.
 ghost use Rattle.std.specs.Prelude.{◌≡◌};
+ghost use Rattle.parts.specs.Tests.{seq_of};
 ghost use Rattle.node.specs.Actions.{effect, grants, would_grant, on_set_r};
 
-use crate::{Node, Outcome, Step, Verdict, steps};
-use parts::{Kind, Link, Message, Posts, Seq};
+use crate::{Node, Outcome, Step, steps};
+use parts::{Kind, Message, Posts, Status};
 use sequence::Number;
 
+#[tactic(auto, unfolding(crate::specs::Actions::grants))]
 fn grants_request(node: Node, sender: u8, new: u8, expected: u8) -> bool
     ensures { result ≡ grants node sender new expected }
 {
-    let status = node.status;
-    let right = node.right;
-    let rseq = node.rseq;
-    status.is_in()
-        & (right.links_to(expected) & ((new != sender) | sequence::has_next(rseq.number())))
+    (node.status == Status::In)
+        & ((node.right == Some(expected))
+            & ((new != sender) | sequence::has_next(node.right_number())))
 }
 
 impl Node {
+    // The right number; the first number where there is none.
+    pub(crate) fn right_number(self) -> Number
+        ensures { result ≡ seq_of self.rseq }
+    {
+        self.rseq.unwrap_or(sequence::first())
+    }
+
     // Whether this message, from a sender, is a request that the node would grant.
     pub fn would_grant(self, sender: u8, kind: Kind) -> bool
         ensures { result ≡ would_grant self sender kind }
     {
         match kind {
-            Kind::SetR {
-                new,
-                expected,
-                number: _,
-            } => grants_request(self, sender, new, expected),
-            Kind::SetRAck { number: _ } => false,
-            Kind::SetRNak => false,
-            Kind::SetL { left: _, number: _ } => false,
+            Kind::SetR { new, expected, .. } => grants_request(self, sender, new, expected),
+            Kind::SetRAck { .. } | Kind::SetRNak | Kind::SetL { .. } => false,
         }
     }
 }
@@ -37,8 +38,6 @@ impl Node {
 pub fn on_set_r(node: Node, me: u8, sender: u8, new: u8, expected: u8, number: Number) -> Step
     ensures { effect result ≡ on_set_r me node sender new expected number }
 {
-    let right = node.right;
-    let rseq = node.rseq;
     if !grants_request(node, sender, new, expected) {
         let nak = Message {
             sender: me,
@@ -47,10 +46,10 @@ pub fn on_set_r(node: Node, me: u8, sender: u8, new: u8, expected: u8, number: N
         };
         return steps::posts_one(node, nak, Outcome::Denied);
     }
-    let next = sequence::capped_next(rseq.number());
+    let next = sequence::capped_next(node.right_number());
     let relinked = Node {
-        right: Link::To(new),
-        rseq: Seq::Is(number),
+        right: Some(new),
+        rseq: Some(number),
         ..node
     };
     let ack = Message {
@@ -61,7 +60,7 @@ pub fn on_set_r(node: Node, me: u8, sender: u8, new: u8, expected: u8, number: N
     let notice = if new == sender {
         Message {
             sender: me,
-            to: right.target(),
+            to: node.right.unwrap_or(0),
             kind: Kind::SetL {
                 left: sender,
                 number: next,
@@ -77,6 +76,6 @@ pub fn on_set_r(node: Node, me: u8, sender: u8, new: u8, expected: u8, number: N
     Step {
         node: relinked,
         posts: Posts::Two(notice, ack),
-        verdict: Verdict::Done(Outcome::Granted),
+        verdict: Ok(Outcome::Granted),
     }
 }

@@ -3,7 +3,7 @@ ghost use Rattle.std.specs.Prelude.{◌≡◌};
 ghost use Rattle.refusal.specs.Code.{reason};
 ghost use Rattle.node.specs.Actions.{effect, refused, quiet, posting};
 
-use crate::{Node, Outcome, Step, Verdict};
+use crate::{Node, Outcome, Step};
 use parts::{Message, Posts};
 use refusal::Refusal;
 
@@ -13,7 +13,7 @@ pub fn refuse(node: Node, refusal: Refusal) -> Step
     Step {
         node,
         posts: Posts::Nothing,
-        verdict: Verdict::Refused(refusal),
+        verdict: Err(refusal),
     }
 }
 
@@ -23,7 +23,7 @@ pub fn silent(node: Node, outcome: Outcome) -> Step
     Step {
         node,
         posts: Posts::Nothing,
-        verdict: Verdict::Done(outcome),
+        verdict: Ok(outcome),
     }
 }
 
@@ -33,6 +33,6 @@ pub fn posts_one(node: Node, message: Message, outcome: Outcome) -> Step
     Step {
         node,
         posts: Posts::One(message),
-        verdict: Verdict::Done(outcome),
+        verdict: Ok(outcome),
     }
 }

@@ -1,19 +1,16 @@
 -- When a link, the links of a node, or a message are well formed among the first `count` nodes
 -- (paper 01: in shape). Definitions only.
-use Rattle.std.specs.Prelude.{ℕ, Bool, true, not, ◌&&◌, ◌||◌, ltb}
+use Rattle.std.specs.Prelude.{ℕ, Bool, true, not, ◌&&◌, ◌||◌, ltb, Some, None}
 use Rattle.parts.specs.declared.Status.{Status}
-use Rattle.parts.specs.declared.Seq.{Seq}
-use Rattle.parts.specs.declared.Link.{Link}
-use Rattle.parts.specs.declared.Link.TheVariants.{Unlinked, To}
 use Rattle.parts.specs.declared.Kind.{Kind}
 use Rattle.parts.specs.declared.Kind.TheVariants.{SetR, SetRAck, SetRNak, SetL}
 use Rattle.parts.specs.declared.Message.{Message}
-use Rattle.parts.specs.Tests.{is_out, is_in_or_del, linked, numbered}
+use Rattle.parts.specs.Tests.{Seq, Link, is_out, is_in_or_del, linked, numbered}
 
 -- R2.5: a link that is there names one of the first `count` nodes
 abbrev pub link_fits : ℕ → Link → Bool
-link_fits count Unlinked = true
-link_fits count (To n) = ltb n count
+link_fits count None = true
+link_fits count (Some n) = ltb n count
 
 -- R2.5, R2.6: the links of a node are declared, and there unless it is out; its right number is
 -- there while it is in or del

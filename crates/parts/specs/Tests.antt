@@ -1,13 +1,10 @@
 -- Tests of the parts of a node and of a message: its status, a link, a number that a node may lack,
 -- a kind. Each goes by cases, once. Definitions only.
-use Rattle.std.specs.Prelude.{ℕ, Bool, true, false, ◌||◌, eqb}
+use Rattle.std.specs.Prelude.{ℕ, Bool, true, false, ◌||◌, eqb, Option, Some, None}
+use Rattle.std.specs.Option.{unwrap_or}
 use Rattle.sequence.specs.Sequence.{Number, first_seq, is_seq}
 use Rattle.parts.specs.declared.Status.{Status}
 use Rattle.parts.specs.declared.Status.TheVariants.{Out, Ins, In, Del}
-use Rattle.parts.specs.declared.Link.{Link}
-use Rattle.parts.specs.declared.Link.TheVariants.{Unlinked, To}
-use Rattle.parts.specs.declared.Seq.{Seq}
-use Rattle.parts.specs.declared.Seq.TheVariants.{Unset, Is}
 use Rattle.parts.specs.declared.Kind.{Kind}
 use Rattle.parts.specs.declared.Kind.TheVariants.{SetR, SetRAck, SetRNak, SetL}
 
@@ -31,29 +28,33 @@ is_in_or_del Ins = false
 is_in_or_del In = true
 is_in_or_del Del = true
 
--- ---- R1.3: a link
+-- ---- R1.3: a link, which a node may lack; it names a node
+abbrev pub Link : Type 0
+Link = Option ℕ
+
 abbrev pub linked : Link → Bool
-linked Unlinked = false
-linked (To n) = true
+linked None = false
+linked (Some n) = true
 
 abbrev pub links_to : Link → ℕ → Bool
-links_to Unlinked m = false
-links_to (To n) m = eqb n m
+links_to None m = false
+links_to (Some n) m = eqb n m
 
 -- the node that a link names; it is used only where the link is there
 abbrev pub target : Link → ℕ
-target Unlinked = 0
-target (To n) = n
+target l = unwrap_or l 0
 
 -- ---- R1.3: a right number, which a node may lack
+abbrev pub Seq : Type 0
+Seq = Option Number
+
 abbrev pub numbered : Seq → Bool
-numbered Unset = false
-numbered (Is n) = true
+numbered None = false
+numbered (Some n) = true
 
 -- the number; it is used only where it is there
 abbrev pub seq_of : Seq → Number
-seq_of Unset = first_seq
-seq_of (Is n) = n
+seq_of q = unwrap_or q first_seq
 
 -- ---- R1.6: a kind of message
 -- R1.6: a request is a SetR
@@ -88,8 +89,8 @@ is_answer kind = is_ack kind || is_nak kind
 
 -- ---- R2.8: of a right number, and of the number that a message carries
 abbrev pub seq_fits : Seq → Bool
-seq_fits Unset = true
-seq_fits (Is n) = is_seq n
+seq_fits None = true
+seq_fits (Some n) = is_seq n
 
 abbrev pub number_fits : Kind → Bool
 number_fits (SetR new expected number) = is_seq number

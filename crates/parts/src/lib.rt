@@ -10,7 +10,7 @@ mod tests;
 
 pub use shape::{link_fits, links_fit};
 
-#[derive(Clone, Copy)]
+#[derive(Clone, Copy, Debug, PartialEq, Eq)]
 pub enum Status {
     Out,
     Ins,
@@ -18,21 +18,13 @@ pub enum Status {
     Del,
 }
 
-// A link to a node, by its number.
-#[derive(Clone, Copy)]
-pub enum Link {
-    Unlinked,
-    To(u8),
-}
+// A link to a node, by its number, where there is one.
+pub type Link = Option<u8>;
 
 // A right number, which a node may lack.
-#[derive(Clone, Copy)]
-pub enum Seq {
-    Unset,
-    Is(Number),
-}
+pub type Seq = Option<Number>;
 
-#[derive(Clone, Copy)]
+#[derive(Clone, Copy, Debug, PartialEq, Eq)]
 pub enum Kind {
     SetR {
         new: u8,
@@ -49,7 +41,7 @@ pub enum Kind {
     },
 }
 
-#[derive(Clone, Copy)]
+#[derive(Clone, Copy, Debug, PartialEq, Eq)]
 pub struct Message {
     pub sender: u8,
     pub to: u8,
@@ -57,7 +49,7 @@ pub struct Message {
 }
 
 // What a step posts, in this order.
-#[derive(Clone, Copy)]
+#[derive(Clone, Copy, Debug, PartialEq, Eq)]
 pub enum Posts {
     Nothing,
     One(Message),

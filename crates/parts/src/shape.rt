@@ -7,10 +7,7 @@ use crate::{Kind, Link, Message, Seq, Status};
 pub fn link_fits(link: Link, count: u8) -> bool
     ensures { result ≡ link_fits count link }
 {
-    match link {
-        Link::Unlinked => true,
-        Link::To(n) => n < count,
-    }
+    link.is_none_or(|n| n < count)
 }
 
 // The links and the right number of a node of this status.
@@ -18,22 +15,17 @@ pub fn links_fit(status: Status, left: Link, right: Link, rseq: Seq, count: u8) 
     ensures { result ≡ links_fit count status left right rseq }
 {
     (link_fits(left, count) & link_fits(right, count))
-        & ((status.is_out() | (left.is_linked() & right.is_linked()))
-            & (!status.is_in_or_del() | rseq.is_numbered()))
+        & (((status == Status::Out) | (left.is_some() & right.is_some()))
+            & (!matches!(status, Status::In | Status::Del) | rseq.is_some()))
 }
 
 fn kind_fits(kind: Kind, count: u8) -> bool
     ensures { result ≡ kind_fits count kind }
 {
     match kind {
-        Kind::SetR {
-            new,
-            expected,
-            number: _,
-        } => (new < count) & (expected < count),
-        Kind::SetRAck { number: _ } => true,
-        Kind::SetRNak => true,
-        Kind::SetL { left, number: _ } => left < count,
+        Kind::SetR { new, expected, .. } => (new < count) & (expected < count),
+        Kind::SetRAck { .. } | Kind::SetRNak => true,
+        Kind::SetL { left, .. } => left < count,
     }
 }
 
@@ -43,7 +35,6 @@ impl Message {
     pub fn fits(self, count: u8) -> bool
         ensures { result ≡ message_fits count self }
     {
-        let kind = self.kind;
-        (self.sender < count) & ((self.to < count) & kind_fits(kind, count))
+        (self.sender < count) & ((self.to < count) & kind_fits(self.kind, count))
     }
 }

@@ -1,6 +1,7 @@
 -- Words that the rules are said with: tests over the members of a list, and over the numbers below
 -- a bound. Definitions only.
-use Rattle.std.specs.Prelude.{ℕ, zero, suc, ◌+◌, ◌*◌, ◌^◌, Bool, true, false, ◌&&◌, ◌||◌, List, [], ◌∷◌}
+use Rattle.std.specs.Prelude.{ℕ, zero, suc, ◌+◌, ◌*◌, ◌^◌, Bool, true, false, ◌&&◌, List, [], ◌∷◌}
+use Rattle.std.specs.List.{list_any, list_all}
 
 -- R4.2, R10.9: what passes a test counts one
 abbrev pub bit : Bool → ℕ
@@ -14,13 +15,11 @@ count test (x ∷ l) = bit (test x) + count test l
 
 -- R4.1, R10.7, refusal 25: whether some member of l passes
 abbrev pub any : {A : Type 0} → (A → Bool) → List A → Bool
-any test [] = false
-any test (x ∷ l) = test x || any test l
+any test l = list_any test l
 
 -- R2.3, R2.5, R2.8: whether every member of l passes
 abbrev pub every : {A : Type 0} → (A → Bool) → List A → Bool
-every test [] = true
-every test (x ∷ l) = test x && every test l
+every test l = list_all test l
 
 -- R2.4, R2.5, R2.6, R2.7, R2.8, refusals 21 and 22: whether every number below n passes
 abbrev pub every_below : ℕ → (ℕ → Bool) → Bool

@@ -1,103 +1,86 @@
-// The lines of the printout (R9.7, R9.8), each written straight into the text. Where forty bytes
-// find no room nothing is written: no line has more, whatever its numbers, so nothing is asked of
-// the caller. A word is put with the space before it and the line end after it, as one constant.
+// The lines of the printout (R9.7, R9.8), each appended to the text. Where forty bytes find no room
+// nothing is written: no line has more, whatever its numbers, so nothing is asked of the caller.
 #![tactic(auto)]
 
-ghost use Rattle.std.specs.Prelude.{◌+◌, ◌≤◌, length};
+ghost use Rattle.std.specs.Prelude.{◌≡◌, ◌+◌, ◌≤◌, ◌++◌, length};
 ghost use Rattle.refusal.specs.Code.{reason};
 ghost use Rattle.refusal.specs.Rules.{done, no};
-ghost use Rattle.protocol.specs.declared.Reply.TheVariants.{Declared, Owner, Ran};
-ghost use Rattle.printout.specs.Lines.{line_of, last_line};
-ghost use Rattle.printout.specs.Writing.{Item, LastItem, Ended, Printed};
+ghost use Rattle.printout.specs.Lines.{pair, reply_words, line_of, last_line};
+ghost use Rattle.printout.specs.Writing.{printed};
 
 use protocol::Reply;
 use refusal::Refusal;
+use text::Page;
 
 // No line has more bytes.
 const LINE: usize = 40;
 
-// An item of a line: a word, and a number after it.
-fn put_item(text: &mut [u8], at: usize, word: &[u8], n: u32) -> usize
-    ensures { Item text.old at word.now n text.new result }
+// Two words, and a number after each.
+fn put_pair<const N: usize>(text: &mut Page<N>, word: &[u8], n: u16, second: &[u8], m: u32)
+    requires { length text.old + (length word.now + length second.now + 15) ≤ N }
+    ensures text_after { text.new ≡ text.old ++ pair word.now n second.now m }
+    ensures short { length (pair word.now n second.now m) ≤ length word.now + length second.now + 15 }
 {
-    let at = text::append(text, at, word);
-    text::append_decimal(text, at, n)
+    text.append(word);
+    text.append_decimal(n as u32);
+    text.append(second);
+    text.append_decimal(m);
 }
 
-// The last item of a line, with the line end after it.
-fn put_last_item(text: &mut [u8], at: usize, word: &[u8], n: u32) -> usize
-    ensures { LastItem text.old at word.now n text.new result }
-{
-    let at = put_item(text, at, word, n);
-    text::append(text, at, b"\n")
-}
-
-fn put_bench(text: &mut [u8], at: usize, number: u8, key: u32) -> usize
-    requires { at + 30 ≤ length text.old }
-    ensures { Ended text.old at (done (Declared number key)) text.new result }
-{
-    let at = put_item(text, at, b" bench ", number as u32);
-    put_last_item(text, at, b" key ", key)
-}
-
-fn put_owner(text: &mut [u8], at: usize, node: u8, hops: u8) -> usize
-    requires { at + 30 ≤ length text.old }
-    ensures { Ended text.old at (done (Owner node hops)) text.new result }
-{
-    let at = put_item(text, at, b" owner ", node as u32);
-    put_last_item(text, at, b" hops ", hops as u32)
-}
-
-fn put_ran(text: &mut [u8], at: usize, made: u16, left: u8) -> usize
-    requires { at + 30 ≤ length text.old }
-    ensures { Ended text.old at (done (Ran made left)) text.new result }
-{
-    let at = put_item(text, at, b" ran ", made as u32);
-    put_last_item(text, at, b" left ", left as u32)
-}
-
-fn put_reply(text: &mut [u8], at: usize, reply: Reply) -> usize
-    requires { at + 30 ≤ length text.old }
-    ensures { Ended text.old at (done reply) text.new result }
+// What is said between the space and the line end.
+fn put_reply<const N: usize>(text: &mut Page<N>, reply: Reply)
+    requires { length text.old + 28 ≤ N }
+    ensures text_after { text.new ≡ text.old ++ reply_words reply }
+    ensures short { length (reply_words reply) ≤ 28 }
 {
     match reply {
-        Reply::Declared { number, key } => put_bench(text, at, number, key),
-        Reply::Stepped(outcome) => words::put_outcome(text, at, outcome),
-        Reply::Owner { node, hops } => put_owner(text, at, node, hops),
-        Reply::Ran { made, left } => put_ran(text, at, made, left),
-        Reply::Inserted { word: _, size: _ } => text::append(text, at, b" \n"),
+        Reply::Declared { number, key } => {
+            put_pair(text, b"bench ", number as u16, b" key ", key);
+        }
+        Reply::Stepped(outcome) => text.append(words::word(outcome)),
+        Reply::Owner { node, hops } => {
+            put_pair(text, b"owner ", node as u16, b" hops ", hops as u32);
+        }
+        Reply::Ran { made, left } => put_pair(text, b"ran ", made, b" left ", left as u32),
+        Reply::Inserted { word: _, size: _ } => {}
     }
 }
 
-// The line of a record that is done, and the place after it.
-pub fn reply_line(text: &mut [u8], at: usize, ordinal: u32, reply: Reply) -> usize
-    ensures { Printed text.old at (line_of ordinal (done reply)) text.new result }
+// The line of a record that is done.
+#[tactic(auto)]
+pub fn reply_line<const N: usize>(text: &mut Page<N>, ordinal: u32, reply: Reply)
+    ensures text_after { text.new ≡ printed N text.old (line_of ordinal (done reply)) }
+    ensures short { length text.new ≤ length text.old + 40 }
 {
-    if text::lacks_room(text.len(), at, LINE) {
-        return at;
+    if text.has_room(LINE) {
+        text.append_decimal(ordinal);
+        text.append(b" ");
+        put_reply(text, reply);
+        text.append(b"\n");
     }
-    let at = text::append_decimal(text, at, ordinal);
-    put_reply(text, at, reply)
 }
 
 // The line of a record that is refused.
-pub fn refusal_line(text: &mut [u8], at: usize, ordinal: u32, refusal: Refusal) -> usize
-    ensures { Printed text.old at (line_of ordinal (no (reason refusal))) text.new result }
+#[tactic(auto)]
+pub fn refusal_line<const N: usize>(text: &mut Page<N>, ordinal: u32, refusal: Refusal)
+    ensures text_after { text.new ≡ printed N text.old (line_of ordinal (no (reason refusal))) }
+    ensures short { length text.new ≤ length text.old + 40 }
 {
-    if text::lacks_room(text.len(), at, LINE) {
-        return at;
+    if text.has_room(LINE) {
+        text.append_decimal(ordinal);
+        text.append(b" no ");
+        text.append_decimal(refusal.number() as u32);
+        text.append(b"\n");
     }
-    let at = text::append_decimal(text, at, ordinal);
-    put_last_item(text, at, b" no ", refusal.number() as u32)
 }
 
 // The last line, from the messages that wait and all that were ever posted.
-pub fn last_line(text: &mut [u8], at: usize, waiting: u8, posted: u32) -> usize
-    ensures { Printed text.old at (last_line waiting posted) text.new result }
+pub fn last_line<const N: usize>(text: &mut Page<N>, waiting: u8, posted: u32)
+    ensures text_after { text.new ≡ printed N text.old (last_line waiting posted) }
+    ensures short { length text.new ≤ length text.old + 40 }
 {
-    if text::lacks_room(text.len(), at, LINE) {
-        return at;
+    if text.has_room(LINE) {
+        put_pair(text, b"end ", waiting as u16, b" posted ", posted);
+        text.append(b"\n");
     }
-    let at = put_item(text, at, b"end ", waiting as u32);
-    put_last_item(text, at, b" posted ", posted)
 }

@@ -3,61 +3,57 @@
 // printed, so that nothing is asked of the caller; a run comes to neither.
 #![tactic(auto)]
 
-ghost use Rattle.std.specs.Prelude.{◌≡◌};
-ghost use Rattle.progress.specs.Leaving.{refusal_in, Leaves, Refuses};
+ghost use Rattle.std.specs.Prelude.{◌≡◌, ◌+◌, ◌≤◌, length};
+ghost use Rattle.printout.specs.Writing.{printed};
+ghost use Rattle.progress.specs.Leaving.{left, line_after, refused};
 
-use protocol::Answer;
 use refusal::Refusal;
 use report::Report;
+use text::Page;
 
-// The cursor, the ordinal of the last record, all messages posted, and the bytes printed.
+// The cursor, the ordinal of the last record, and all messages posted.
 #[derive(Clone, Copy)]
 pub struct Progress {
     pub at: usize,
     pub ordinal: u32,
     pub posted: u32,
-    pub used: usize,
-}
-
-// The refusal in an answer; of one that is done it is not asked for.
-fn refusal_in(answer: Answer) -> Refusal
-    ensures { result ≡ refusal_in answer }
-{
-    match answer {
-        Answer::Done(_) => Refusal::Malformed,
-        Answer::Refused(refusal) => refusal,
-    }
 }
 
 // R9.9: a record is left with its line printed and the cursor past it; at once where it is refused,
 // since it then has posted nothing.
-pub fn leave_record(text: &mut [u8; 1048576], p: Progress, after: usize, report: Report) -> Progress
-    ensures { Leaves p after report text.old result text.new }
+pub fn leave_record<const N: usize>(
+    text: &mut Page<N>,
+    p: Progress,
+    after: usize,
+    report: Report,
+) -> Progress
+    ensures progress { result ≡ left p after report }
+    ensures text_after { text.new ≡ printed N text.old (line_after p report) }
+    ensures short { length text.new ≤ length text.old + 40 }
 {
     let ordinal = std::num::wrapping_add_u32(p.ordinal, 1);
     let answer = report.answer;
-    let Answer::Done(reply) = answer else {
-        let used = printout::refusal_line(text, p.used, ordinal, refusal_in(answer));
+    let Ok(reply) = answer else {
+        printout::refusal_line(text, ordinal, answer.unwrap_err());
         return Progress {
             at: after,
             ordinal,
             posted: p.posted,
-            used,
         };
     };
-    let used = printout::reply_line(text, p.used, ordinal, reply);
+    printout::reply_line(text, ordinal, reply);
     Progress {
         at: after,
         ordinal,
         posted: std::num::wrapping_add_u32(p.posted, report.posted),
-        used,
     }
 }
 
 // R9.1: a script that is too long is refused as a whole, by its one line, and the last.
-pub fn refuse_script(text: &mut [u8; 1048576], start: usize) -> usize
-    ensures { Refuses text.old start text.new result }
+pub fn refuse_script<const N: usize>(text: &mut Page<N>)
+    ensures text_after { text.new ≡ refused N text.old }
+    ensures short { length text.new ≤ length text.old + 80 }
 {
-    let used = printout::refusal_line(text, start, 0, Refusal::ScriptTooLong);
-    printout::last_line(text, used, 0, 0)
+    printout::refusal_line(text, 0, Refusal::ScriptTooLong);
+    printout::last_line(text, 0, 0);
 }

@@ -1,5 +1,6 @@
 -- The invariant holds after the delivery of an answer: the node that waited for it is then in or
 -- out, and is inserted exactly if it was. Assumes nothing.
+use Rattle.std.specs.Prelude.{Some}
 use mathlib.Core.Path.{◌≡◌, refl, sym, ap, ◌∙◌}
 use mathlib.Core.Logic.{⊎_elim, ◌≢◌}
 use mathlib.Core.Bool.{Bool, true, false}
@@ -11,7 +12,6 @@ use Rattle.sequence.specs.Sequence.{Number}
 use Rattle.predicates.proofs.TestLaws.{◌∈◌, not-both, any-in}
 use Rattle.parts.specs.declared.Status.{Status}
 use Rattle.parts.specs.declared.Status.TheVariants.{Out, Ins, In, Del}
-use Rattle.parts.specs.declared.Seq.TheVariants.{Is}
 use Rattle.parts.specs.declared.Message.{Message}
 use Rattle.node.specs.declared.Node.{Node}
 use Rattle.node.specs.Actions.{set_r, set_r_ack, set_r_nak, set_l, with_status, confirmed}
@@ -93,7 +93,7 @@ module _ {N N' : ℕ → Node} {M rest : List Message} {told joins : ℕ → Boo
     where
       keep : (R : ℕ) → Member N M i → Keeps N' rest i R → Keeps N M i R
       keep R _ (stored f e) =
-          let same : Is n ≡ Is R = sym (ap rseq_of at.self) ∙ e in
+          let same : Some n ≡ Some R = sym (ap rseq_of at.self) ∙ e in
           let r : n ≡ R = cc in
           coming ins p (rw r at t.waits)
       keep R _ (coming h w j) = absurd (settled_in.0 (sym (ap status_of at.self) ∙ h))

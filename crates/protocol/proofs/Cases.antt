@@ -5,7 +5,7 @@ use mathlib.Core.Path.{◌≡◌, refl, ap}
 use mathlib.Core.Logic.{⊎_elim, ◌≢◌}
 use mathlib.Core.Bool.{true, false, not, ◌&&◌}
 use mathlib.Core.List.{List, append-nil}
-use mathlib.Core.Option.{Option, none, some}
+use Rattle.std.specs.Prelude.{Option, None, Some}
 use Prim.Native.Nat.{ℕ, ◌<◌}
 use native.Mathlib.Omega.{arith}
 use native.Mathlib.Decide.{ℕ_discrete}
@@ -48,7 +48,7 @@ tested-between : (a b u : ℕ) → not (between a b u) ≡ false → Between a b
 tested-between a b u e = (between_iff a b u).0 (holds (not-false (between a b u) e))
 
 -- ---- the calls
-declare_case : (s : State) (key : ℕ) → first (declare_rules s key) ≡ none → Accepted s (Order (Declare key)) (declaring s key)
+declare_case : (s : State) (key : ℕ) → first (declare_rules s key) ≡ None → Accepted s (Order (Declare key)) (declaring s key)
 declare_case s key clear =
     let (_, (fits, (room, (new, _)))) = cleared (declare_rules s key) clear in
     let differs = below_at (length s.nodes) (λ v. not (eqb (key_at s v) key)) (not-false _ new) in
@@ -58,7 +58,7 @@ declare_case s key clear =
       is_new = λ v h. eqb-false (key_at s v) key (not-true _ (differs v h));
     } refl
 
-create_case : (s : State) (u : ℕ) → first (create_rules s u) ≡ none → Accepted s (Order (Create u)) (creating s u)
+create_case : (s : State) (u : ℕ) → first (create_rules s u) ≡ None → Accepted s (Order (Create u)) (creating s u)
 create_case s u clear =
     let (ok, (known, (out, (no_notice, _)))) = cleared (create_rules s u) clear in
     let w = well-formed s (not-false (well_formed s) ok) in
@@ -71,7 +71,7 @@ create_case s u clear =
       no_notice = no_notice;
     } (rw (create-accepted u (node_at s u) (ap not sound, (ap not (all-out u declared), tt)), append-nil))
 
-join_case : (s : State) (u p q : ℕ) → first (join_rules s u p q) ≡ none → Accepted s (Order (Join u p q)) (joining s u p q)
+join_case : (s : State) (u p q : ℕ) → first (join_rules s u p q) ≡ None → Accepted s (Order (Join u p q)) (joining s u p q)
 join_case s u p q clear =
     let (_, (known, (left, (right, (sound, (out, (lies, (no_notice, (room, _))))))))) = cleared (join_rules s u p q) clear in
     asks u p q refl record {
@@ -84,7 +84,7 @@ join_case s u p q clear =
       room = tested-below (length s.messages) queue_limit room;
     } (rw (join-accepted u (node_at s u) (peer_at s p) (peer_at s q) (sound, (out, (lies, tt)))))
 
-leave_case : (s : State) (u : ℕ) → first (leave_rules s u) ≡ none → Accepted s (Order (Leave u)) (leaving s u)
+leave_case : (s : State) (u : ℕ) → first (leave_rules s u) ≡ None → Accepted s (Order (Leave u)) (leaving s u)
 leave_case s u clear =
     let (ok, (known, (sound, (inside, (unspent, (room, _)))))) = cleared (leave_rules s u) clear in
     let declared : u < length s.nodes = tested-below u _ known in
@@ -190,7 +190,7 @@ waiting_case s w place present room =
       receive-case s w (message_at s place) out.waits (without place s.messages) (λ g. tested-below (length s.messages) queue_limit (left-fails (is_full s) _ room g)),
     )
 
-deliver_case : (s : State) (place : ℕ) → first (deliver_rules s place) ≡ none → Accepted s (Deliver place) (delivering s place)
+deliver_case : (s : State) (place : ℕ) → first (deliver_rules s place) ≡ None → Accepted s (Deliver place) (delivering s place)
 deliver_case s place clear =
     let (ok, (room, (absent, _))) = cleared (deliver_rules s place) clear in
     let present : ltb place (length s.messages) ≡ true = not-false _ absent in
@@ -202,11 +202,11 @@ pub delivery : {s : State} {place : ℕ} → WellFormed s → place < length s.m
     → Act s (message_at s place) (without place s.messages) (apply_of s (Deliver place))
 unfolding apply_of
 delivery {s} {place} w present room =
-    let clear : first (deliver_rules s place) ≡ none = rw (tested s w, lt-ltb place (length s.messages) present, room) in
+    let clear : first (deliver_rules s place) ≡ None = rw (tested s w, lt-ltb place (length s.messages) present, room) in
     rw clear (waiting_case s w place present room).1
 
 -- ---- any call
-pub accepted_case : (s : State) (call : Call) → first (rules_of s call) ≡ none → Accepted s call (effect_of s call)
+pub accepted_case : (s : State) (call : Call) → first (rules_of s call) ≡ None → Accepted s call (effect_of s call)
 accepted_case s (Order (Declare key)) clear = declare_case s key clear
 accepted_case s (Order (Create u)) clear = create_case s u clear
 accepted_case s (Order (Join u p q)) clear = join_case s u p q clear
@@ -217,6 +217,6 @@ pub change : (s : State) (call : Call) → Change s call (apply_of s call)
 unfolding apply_of
 change s call = go (first (rules_of s call)) (accepted_case s call)
   where
-    go : (o : Option Reason) → (o ≡ none → Accepted s call (effect_of s call)) → Change s call (unless_refused o (refused s) (effect_of s call))
-    go none accepted = accepts (accepted refl)
-    go (some n) accepted = refuses n refl
+    go : (o : Option Reason) → (o ≡ None → Accepted s call (effect_of s call)) → Change s call (unless_refused o (refused s) (effect_of s call))
+    go None accepted = accepts (accepted refl)
+    go (Some n) accepted = refuses n refl

@@ -1,6 +1,7 @@
 -- What a call on a well-formed network can do, one case for each row of the rules, with the facts
 -- that its tests have shown. The cases are read off the definitions once, in `Cases`; whatever is
 -- proved of every call is then proved case by case from these facts. Assumes nothing.
+use Rattle.std.specs.Prelude.{Some}
 use mathlib.Core.Path.{◌≡◌}
 use mathlib.Core.Logic.{◌≢◌}
 use mathlib.Core.Bool.{true, false}
@@ -13,8 +14,6 @@ use Rattle.serial.specs.Serial.{in_range}
 use Rattle.interval.proofs.Laws.{Between}
 use Rattle.sequence.specs.Sequence.{Number, next_seq, capped_next, has_next, newer}
 use Rattle.parts.specs.declared.Status.TheVariants.{Out, Ins, In, Del}
-use Rattle.parts.specs.declared.Link.TheVariants.{To}
-use Rattle.parts.specs.declared.Seq.TheVariants.{Is}
 use Rattle.parts.specs.declared.Message.{Message}
 use Rattle.node.specs.declared.Node.{Node}
 use Rattle.node.specs.declared.Outcome.{Outcome}
@@ -60,15 +59,15 @@ pub record Joins (s : State) (u p q : ℕ) : Type 0 where
 pub record LeavesAlone (s : State) (u : ℕ) : Type 0 where
   pub declared : u < length s.nodes
   pub is_in : status_at s u ≡ In
-  pub alone : right_at s u ≡ To u
+  pub alone : right_at s u ≡ Some u
 
 pub record Leaves (s : State) (u p q : ℕ) (n : Number) : Type 0 where
   pub declared : u < length s.nodes
   pub is_in : status_at s u ≡ In
-  pub left : left_at s u ≡ To p
-  pub right : right_at s u ≡ To q
+  pub left : left_at s u ≡ Some p
+  pub right : right_at s u ≡ Some q
   pub not_alone : q ≢ u
-  pub number : (node_at s u).rseq ≡ Is n
+  pub number : (node_at s u).rseq ≡ Some n
   pub unspent : has_next n ≡ true
   pub room : length s.messages < queue_limit
 
@@ -80,8 +79,8 @@ pub record Delivers (s : State) (place : ℕ) (m : Message) (rest : List Message
 -- node p grants: it links to e with number k
 pub record Grants (s : State) (p e : ℕ) (k : Number) : Type 0 where
   pub is_in : status_at s p ≡ In
-  pub right : right_at s p ≡ To e
-  pub number : (node_at s p).rseq ≡ Is k
+  pub right : right_at s p ≡ Some e
+  pub number : (node_at s p).rseq ≡ Some k
   pub room : length s.messages < queue_limit
 
 -- ---- what node m .to does with the message m, the rest still waiting

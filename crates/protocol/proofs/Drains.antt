@@ -6,7 +6,7 @@ use mathlib.Core.Path.{◌≡◌, refl, sym, ap, ◌∙◌}
 use mathlib.Core.Logic.{⊎_elim, ◌≢◌}
 use mathlib.Core.Bool.{Bool, true, false, and-false}
 use mathlib.Core.List.{List, [], ◌∷◌, ◌++◌, map}
-use mathlib.Core.Option.{some}
+use Rattle.std.specs.Prelude.{Some}
 use Prim.Native.Nat.{ℕ, zero, suc, ◌+◌, ◌≤◌, ◌<◌}
 use native.Mathlib.Omega.{arith}
 use native.Mathlib.Nat.{eq-or-lt_of_le, eq-zero-or-pos}
@@ -46,7 +46,7 @@ passed_over s k from refused = rw refused
 
 -- it comes to a place before which each delivery is refused
 lowest-from : (s : State) (k from place : ℕ) → from ≤ place → place < from + k → ((q : ℕ) → from ≤ q → q < place → can_deliver s q ≡ false) → can_deliver s place ≡ true
-    → lowest_from s from k ≡ some place
+    → lowest_from s from k ≡ Some place
 lowest-from s zero from place above below before can = absurd (omega arith)
 lowest-from s (suc k) from place above below before can =
     ⊎_elim
@@ -55,7 +55,7 @@ lowest-from s (suc k) from place above below before can =
     (eq-or-lt_of_le above)
 
 -- and where some delivery is not refused, it comes to the place of one that is not
-search_ends : (s : State) (k from q : ℕ) → from ≤ q → q < from + k → can_deliver s q ≡ true → (place : ℕ) × (lowest_from s from k ≡ some place) × (can_deliver s place ≡ true)
+search_ends : (s : State) (k from q : ℕ) → from ≤ q → q < from + k → can_deliver s q ≡ true → (place : ℕ) × (lowest_from s from k ≡ Some place) × (can_deliver s place ≡ true)
 search_ends s zero from q above below can = absurd (omega arith)
 search_ends s (suc k) from q above below can =
     ⊎_elim
@@ -66,13 +66,13 @@ search_ends s (suc k) from q above below can =
     past : can_deliver s from ≡ false → from < q
     past refused = let other : from ≢ q = λ e. not-both (ap (can_deliver s) e ∙ can) refused in omega arith
 
-pub lowest-at : (s : State) (place : ℕ) → place < length s.messages → ((q : ℕ) → q < place → can_deliver s q ≡ false) → can_deliver s place ≡ true → lowest s ≡ some place
+pub lowest-at : (s : State) (place : ℕ) → place < length s.messages → ((q : ℕ) → q < place → can_deliver s q ≡ false) → can_deliver s place ≡ true → lowest s ≡ Some place
 lowest-at s place waits before can = lowest-from s (length s.messages) 0 place (omega arith) (omega arith) (λ q _ l. before q l) can
 
 pub some-lowest : (s : State) → T (well_formed s) → 0 < length s.messages → (place : ℕ) × (place < length s.messages) × T (can_deliver s place)
 some-lowest s w some-wait = let (place, can) = (steady s w).lively.progress some-wait in (place, waits_there s place w (is_true _ can), can)
 
-finds-lowest : (s : State) → T (well_formed s) → 0 < length s.messages → (place : ℕ) × (lowest s ≡ some place) × (can_deliver s place ≡ true)
+finds-lowest : (s : State) → T (well_formed s) → 0 < length s.messages → (place : ℕ) × (lowest s ≡ Some place) × (can_deliver s place ≡ true)
 finds-lowest s w some-wait = let (q, waits, can) = some-lowest s w some-wait in search_ends s (length s.messages) 0 q (omega arith) (omega arith) (is_true _ can)
 
 -- ---- the places of a drain
@@ -80,7 +80,7 @@ pub places-none : (budget : ℕ) (s : State) → length s.messages ≡ 0 → pla
 places-none zero s e = refl
 places-none (suc budget) s e = rw e
 
-pub places-next : (budget : ℕ) (s : State) (place : ℕ) → lowest s ≡ some place → places (suc budget) s ≡ place ∷ places budget (after_delivery s place)
+pub places-next : (budget : ℕ) (s : State) (place : ℕ) → lowest s ≡ Some place → places (suc budget) s ≡ place ∷ places budget (after_delivery s place)
 places-next budget s place e = rw e
 
 -- ---- what a drain comes to
@@ -97,7 +97,7 @@ nothing_to_drain s w budget e =
     let made : places budget s ≡ [] = places-none budget s e in
     record { result = drain_is s budget w; within_budget = rw made (omega arith); none_refused = rw made; to_the_end = λ _. rw made (nothing_left s.messages e) }
 
-one_more : (s : State) → T (well_formed s) → (budget place : ℕ) → lowest s ≡ some place → can_deliver s place ≡ true → Drains (after_delivery s place) budget → Drains s (suc budget)
+one_more : (s : State) → T (well_formed s) → (budget place : ℕ) → lowest s ≡ Some place → can_deliver s place ≡ true → Drains (after_delivery s place) budget → Drains s (suc budget)
 one_more s w budget place e can d =
     let next = places-next budget s place e in
     record {

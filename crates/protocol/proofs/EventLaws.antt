@@ -1,6 +1,7 @@
 -- What each event does to the ring. Who is inserted is read off what is told before and after; keys
 -- and links off the case of the call that the event is; and the order is the one ascending list of
 -- those inserted after, which the invariant says is a ring. Assumes nothing.
+use Rattle.std.specs.Prelude.{Some}
 use mathlib.Core.Path.{◌≡◌, refl, sym, ap, ◌∙◌}
 use mathlib.Core.Logic.{◌⊎◌, inl, inr, ⊎_elim, ◌↔◌, ◌≢◌}
 use mathlib.Core.Bool.{Bool, true, false}
@@ -16,7 +17,6 @@ use Rattle.links.proofs.Ring.{here, in-nil, in_one}
 use Rattle.links.proofs.Places.{members_with, members-without, ascending-inserted, ascending-removed, one-of-key, one-order}
 use Rattle.links.proofs.Circuit.{no-ring, one-ring, ascending-kept, ring-kept, alone-in}
 use Rattle.parts.specs.declared.Status.TheVariants.{Out, In}
-use Rattle.parts.specs.declared.Link.TheVariants.{To}
 use Rattle.parts.specs.declared.Message.{Message}
 use Rattle.node.specs.declared.Node.{Node}
 use Rattle.protocol.specs.declared.Call.{Call}
@@ -117,11 +117,11 @@ module _ {s s' : State} {told : ℕ → Bool} (o : Holds s told) where
 ordered-none : {s : State} → ((w : ℕ) → ¬ Inserted s w) → Ordered s []
 ordered-none none = record { ring = no-ring; members = λ w. (λ i. absurd (in-nil i), λ t. absurd (none w t)) }
 
-ordered-one : {s : State} {u : ℕ} → right_at s u ≡ To u → ((w : ℕ) → Inserted s w ↔ (w ≡ u)) → Ordered s (u ∷ [])
+ordered-one : {s : State} {u : ℕ} → right_at s u ≡ Some u → ((w : ℕ) → Inserted s w ↔ (w ≡ u)) → Ordered s (u ∷ [])
 ordered-one right alone = record { ring = one-ring right; members = λ w. (λ i. (alone w).1 (in_one i), λ t. here ((alone w).0 t)) }
 
 module _ {s s' : State} {told : ℕ → Bool} (o : Holds s told) where
-  founds : {u : ℕ} → Holds s' (put told u true) → ((w : ℕ) → status_at s w ≡ Out) → key_at s' u ≡ key_at s u → right_at s' u ≡ To u → Founds s s' u
+  founds : {u : ℕ} → Holds s' (put told u true) → ((w : ℕ) → status_at s w ≡ Out) → key_at s' u ≡ key_at s u → right_at s' u ≡ Some u → Founds s s' u
   founds {u} o' out key right = record {
     none_before = none;
     inserted = alone;
@@ -137,7 +137,7 @@ module _ {s s' : State} {told : ℕ → Bool} (o : Holds s told) where
       alone : (w : ℕ) → Inserted s' w ↔ (w ≡ u)
       alone w = let now = and_one s s' o o' w in (λ t. ⊎_elim (λ b. absurd (none w b)) (λ e. e) (now.0 t), λ e. now.1 (inr e))
 
-  empties : {u : ℕ} → Holds s' (put told u false) → status_at s u ≡ In → right_at s u ≡ To u → Empties s s' u
+  empties : {u : ℕ} → Holds s' (put told u false) → status_at s u ≡ In → right_at s u ≡ Some u → Empties s s' u
   empties {u} o' is-in right = record {
     alone_before = alone;
     right_before = right;
@@ -209,7 +209,7 @@ module _ {s s' : State} {rest : List Message} {told joins : ℕ → Bool} {v p n
     leaver = holds (still-in c another);
     behind = holds (granting c);
     differ = λ f. settled_in.1 (sym c.is_in ∙ ap (status_at s) f ∙ is-leaver c another);
-    right_before = c.right ∙ ap To (to-leave c another).expected;
+    right_before = c.right ∙ ap Some (to-leave c another).expected;
     right_of_v = (to-leave c another).right;
     inserted = now;
     keys = λ u _. keys u;

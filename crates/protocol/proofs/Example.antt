@@ -2,13 +2,13 @@
 -- afterwards both nodes are inserted, told so and by the definition, and link to each other both
 -- ways, with nothing waiting. A longer list has granted leaves, refusal 25 and a second join. So
 -- the claim is not about networks in which nothing happens. Each line computes. Assumes nothing.
+use Rattle.std.specs.Prelude.{Some}
 use mathlib.Core.Path.{◌≡◌, refl}
 use mathlib.Core.Bool.{true, false}
 use mathlib.Core.List.{[], ◌∷◌}
 use Rattle.interval.specs.Interval.{between}
 use Rattle.sequence.specs.Sequence.{first_seq, last_seq, next_seq, newer, has_next, capped_next}
 use Rattle.links.specs.Walk.{walk, falls}
-use Rattle.parts.specs.declared.Link.TheVariants.{To}
 use Rattle.parts.specs.Shape.{message_fits}
 use Rattle.node.specs.Shape.{node_fits, well_formed as node_is_sound, deliverable, peer_fits}
 use Rattle.node.specs.Actions.{set_r, set_l, create_of, join_of, leave_of, grants, receive_of}
@@ -22,7 +22,7 @@ pub record AfterScript : Type 0 where
   pub said : answers empty script ≡ printed
   pub told : (history script).told 0 ∷ (history script).told 1 ∷ (history script).told 2 ∷ [] ≡ true ∷ true ∷ false ∷ []
   pub are_inserted : inserted (history script).state 0 ∷ inserted (history script).state 1 ∷ inserted (history script).state 2 ∷ [] ≡ true ∷ true ∷ false ∷ []
-  pub left : left_at (history script).state 0 ∷ left_at (history script).state 1 ∷ [] ≡ To 1 ∷ To 0 ∷ []
+  pub left : left_at (history script).state 0 ∷ left_at (history script).state 1 ∷ [] ≡ Some 1 ∷ Some 0 ∷ []
   pub round : walk (right_at (history script).state) 0 3 ≡ 0 ∷ 1 ∷ 0 ∷ []
   pub one_fall : falls (key_at (history script).state) (right_at (history script).state) (0 ∷ 1 ∷ []) ≡ 1
   pub nothing_waits : (history script).state.messages ≡ []

@@ -2,8 +2,7 @@
 -- their fields. Definitions only.
 use Prim.Native.Nat.{ℕ}
 use Rattle.parts.specs.declared.Status.{Status}
-use Rattle.parts.specs.declared.Link.{Link}
-use Rattle.parts.specs.declared.Seq.{Seq}
+use Rattle.parts.specs.Tests.{Link, Seq}
 use Rattle.parts.specs.declared.Kind.{Kind}
 use Rattle.parts.specs.declared.Message.{Message}
 use Rattle.node.specs.declared.Node.{Node}

@@ -1,5 +1,6 @@
 -- What a step leaves as it was. A step changes one node and the queue; most of the invariant then
 -- holds because the parts that it speaks of are the same before and after. Assumes nothing.
+use Rattle.std.specs.Prelude.{Some}
 use mathlib.Core.Path.{◌≡◌, sym, ap, ◌∙◌}
 use mathlib.Core.Logic.{◌≢◌}
 use mathlib.Core.Bool.{Bool}
@@ -12,7 +13,6 @@ use Rattle.predicates.proofs.TestLaws.{◌∈◌, not-both}
 use Rattle.links.proofs.Circuit.{ring-kept, next-in}
 use Rattle.parts.specs.declared.Status.{Status}
 use Rattle.parts.specs.declared.Status.TheVariants.{Out, Ins, In, Del}
-use Rattle.parts.specs.declared.Link.TheVariants.{To}
 use Rattle.parts.specs.declared.Message.{Message}
 use Rattle.node.specs.declared.Node.{Node}
 use Rattle.node.specs.Actions.{set_r_ack, set_l}
@@ -79,7 +79,7 @@ same-order {N} {N'} {M} {M'} same o = record {
   as_told = λ u. o.as_told u ∙ sym (same.member u);
   lefts = λ v u R t r k.
       let mv : Member N M v = sym (same.member v) ∙ t in
-      let at : (N v).right ≡ To u = sym (same.right v mv) ∙ r in
+      let at : (N v).right ≡ Some u = sym (same.right v mv) ∙ r in
       let mu : Member N M u = (o.members u).0 (next-in o.ring ((o.members v).1 mv) at) in
       same.lefts v u R mu (o.lefts v u R mv at (same.keeps v R mv k));
 }

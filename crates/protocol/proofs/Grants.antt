@@ -2,6 +2,7 @@
 -- ring between the granting node and its right link; a leaver is taken out of it. Either way one
 -- link into one node q is new, the number kept for it is the next one, and the notice posted to q
 -- says so. Assumes nothing.
+use Rattle.std.specs.Prelude.{Some}
 use mathlib.Core.Path.{◌≡◌, refl, sym, ap, ◌∙◌}
 use mathlib.Core.Logic.{◌⊎◌, inl, inr, ⊎_elim, ◌≢◌}
 use mathlib.Core.Bool.{Bool, true, false}
@@ -21,8 +22,6 @@ use Rattle.links.proofs.Change.{insert, remove}
 use Rattle.links.proofs.Trails.{same_end}
 use Rattle.parts.specs.declared.Status.{Status}
 use Rattle.parts.specs.declared.Status.TheVariants.{Ins, In, Del}
-use Rattle.parts.specs.declared.Link.TheVariants.{To}
-use Rattle.parts.specs.declared.Seq.TheVariants.{Is}
 use Rattle.parts.specs.declared.Kind.TheVariants.{SetRAck, SetL}
 use Rattle.parts.specs.declared.Message.{Message}
 use Rattle.node.specs.declared.Node.{Node}
@@ -72,7 +71,7 @@ pub record Grant (N N' : ℕ → Node) (M rest M' : List Message) (told joins : 
   pub taken : Taken M (set_r v p new e n) rest
   pub queue : Granted rest M' p v q a k l
   pub is_in : (N p).status ≡ In
-  pub right : (N p).right ≡ To e
+  pub right : (N p).right ≡ Some e
   pub at : At N p (relinked (N p) new n) N'
 
 module _ {N N' : ℕ → Node} {M rest M' : List Message} {told joins : ℕ → Bool} {v p new e : ℕ} {n : Number} {q a : ℕ} {k l : Number} (c : Grant N N' M rest M' told joins v p new e n q a k l) where
@@ -159,17 +158,17 @@ module _ {N N' : ℕ → Node} {M rest M' : List Message} {told joins : ℕ → 
 
   -- the number that p keeps now is the request's
   granting-keeps : (R : ℕ) → Keeps N' M' p R → R ≡ n
-  granting-keeps R (stored f h) = let same : Is n ≡ Is R = sym (ap rseq_of c.at.self) ∙ h in cc
+  granting-keeps R (stored f h) = let same : Some n ≡ Some R = sym (ap rseq_of c.at.self) ∙ h in cc
   granting-keeps R (coming h x j) = absurd (settled_in.0 (sym (status p ∙ c.is_in) ∙ h))
 
   -- a member x that is neither p nor v links where it did; were that q, then x would be the one
   -- that linked there
-  link-kept : (x u R o : ℕ) → x ≢ p → x ≢ v → Member N' M' x → (N' x).right ≡ To u → Keeps N' M' x R → o ∈ c.inv.order.order → (N o).right ≡ To q → x ≢ o → LeftLink N' M' x u R
+  link-kept : (x u R o : ℕ) → x ≢ p → x ≢ v → Member N' M' x → (N' x).right ≡ Some u → Keeps N' M' x R → o ∈ c.inv.order.order → (N o).right ≡ Some q → x ≢ o → LeftLink N' M' x u R
   link-kept x u R o dp dv m r j i out d =
       let member : Member N M x = sym (same-member x dv) ∙ m in
-      let before : (N x).right ≡ To u = sym (ap right_of (c.at.others x dp)) ∙ r in
+      let before : (N x).right ≡ Some u = sym (ap right_of (c.at.others x dp)) ∙ r in
       other-link x u R
-      (λ h. d (one-predecessor c.inv.order.ring ((c.inv.order.members x).1 member) i (before ∙ ap To h) out))
+      (λ h. d (one-predecessor c.inv.order.ring ((c.inv.order.members x).1 member) i (before ∙ ap Some h) out))
       (c.inv.order.lefts x u R member before (other-keeps x R dp dv j))
 
 -- ---- a joiner is let in
@@ -183,11 +182,11 @@ module _ {N N' : ℕ → Node} {M rest M' : List Message} {told joins : ℕ → 
   pub not-yet-in : is_member N M v ≡ false
   not-yet-in = member-same is-joiner (no_answer c)
 
-  pub joiner-right : (N' v).right ≡ To e
+  pub joiner-right : (N' v).right ≡ Some e
   joiner-right = ap right_of (c.at.others v (not-granting c Ins settled_in.0 v is-joiner)) ∙ to-join.right
 
 module _ {N N' : ℕ → Node} {M rest M' : List Message} {told told' joins : ℕ → Bool} {v p e : ℕ} {n k : Number} (c : Grant N N' M rest M' told joins v p v e n e v (next_seq k) (next_seq k))
-    (number : (N p).rseq ≡ Is k) (others-told : (u : ℕ) → u ≢ v → told' u ≡ told u) (own-told : told' v ≡ true) where
+    (number : (N p).rseq ≡ Some k) (others-told : (u : ℕ) → u ≢ v → told' u ≡ told u) (own-told : told' v ≡ true) where
   pub lets-in-kept : Invariant N' M' told' joins
   lets-in-kept = record {
     exchanges = exchanges-kept c (e-member c) (λ _. own);
@@ -212,10 +211,10 @@ module _ {N N' : ℕ → Node} {M rest M' : List Message} {told told' joins : �
       own : is_member N' M' v ≡ true
       own = member-same (status c v ∙ ins) (acked c)
 
-      right-v : (N' v).right ≡ To e
+      right-v : (N' v).right ≡ Some e
       right-v = joiner-right c
 
-      right-p : (N' p).right ≡ To v
+      right-p : (N' p).right ≡ Some v
       right-p = ap right_of c.at.self
 
       w : With (λ u. (N u).key) (λ u. (N' u).right) c.inv.order.order v
@@ -253,7 +252,7 @@ module _ {N N' : ℕ → Node} {M rest M' : List Message} {told told' joins : �
             awaited = λ d. absurd (d lseq);
           }
 
-      lefts : (x u R : ℕ) → Member N' M' x → (N' x).right ≡ To u → Keeps N' M' x R → Dec (x ≡ v) → Dec (x ≡ p) → LeftLink N' M' x u R
+      lefts : (x u R : ℕ) → Member N' M' x → (N' x).right ≡ Some u → Keeps N' M' x R → Dec (x ≡ v) → Dec (x ≡ p) → LeftLink N' M' x u R
       lefts x u R m r j (yes d) o =
           let at-e : u ≡ e = same_end r (ap (λ y. (N' y).right) d ∙ right-v) in
           let next : R ≡ next_seq k = joiner-keeps R (rw d at j) in
@@ -275,7 +274,7 @@ module _ {N N' : ℕ → Node} {M rest M' : List Message} {told joins : ℕ → 
   still-in = member-same is-leaver (no_answer c)
 
 module _ {N N' : ℕ → Node} {M rest M' : List Message} {told told' joins : ℕ → Bool} {v p new e n l R₀ : ℕ} (c : Grant N N' M rest M' told joins v p new e n new p n l)
-    (another : new ≢ v) (number : (N v).rseq ≡ Is R₀) (others-told : (u : ℕ) → u ≢ v → told' u ≡ told u) (own-told : told' v ≡ false) where
+    (another : new ≢ v) (number : (N v).rseq ≡ Some R₀) (others-told : (u : ℕ) → u ≢ v → told' u ≡ told u) (own-told : told' v ≡ false) where
   pub lets-go-kept : Invariant N' M' told' joins
   lets-go-kept = record {
     exchanges = exchanges-kept c new-member (λ h. absurd (ins_not_del (sym h ∙ del)));
@@ -306,11 +305,11 @@ module _ {N N' : ℕ → Node} {M rest M' : List Message} {told told' joins : �
       new-member : Member N M new
       new-member = (c.inv.order.members new).0 (next-in c.inv.order.ring v-in asked.right)
 
-      right-p : (N' p).right ≡ To new
+      right-p : (N' p).right ≡ Some new
       right-p = ap right_of c.at.self
 
       w : Without (λ u. (N u).key) (λ u. (N' u).right) c.inv.order.order v
-      w = remove c.inv.order.ring (p-in c) v-in (c.right ∙ ap To asked.expected) asked.right right-p (λ m d _. ap right_of (c.at.others m d))
+      w = remove c.inv.order.ring (p-in c) v-in (c.right ∙ ap Some asked.expected) asked.right right-p (λ m d _. ap right_of (c.at.others m d))
 
       from : (u : ℕ) → Member N' M' u → Dec (u ≡ v) → (u ∈ c.inv.order.order) × (u ≢ v)
       from u m (yes d) = absurd (not-both m (ap (is_member N' M') d ∙ gone))
@@ -320,7 +319,7 @@ module _ {N N' : ℕ → Node} {M rest M' : List Message} {told told' joins : �
       as_told u (yes d) = rw d (own-told ∙ sym gone)
       as_told u (no d) = others-told u d ∙ c.inv.order.as_told u ∙ sym (same-member c u d)
 
-      lefts : (x u R : ℕ) → Member N' M' x → (N' x).right ≡ To u → Keeps N' M' x R → Dec (x ≡ v) → Dec (x ≡ p) → LeftLink N' M' x u R
+      lefts : (x u R : ℕ) → Member N' M' x → (N' x).right ≡ Some u → Keeps N' M' x R → Dec (x ≡ v) → Dec (x ≡ p) → LeftLink N' M' x u R
       lefts x u R m r j (yes d) o = absurd (not-both m (ap (is_member N' M') d ∙ gone))
       lefts x u R m r j (no d) (yes f) =
           let at_new : u ≡ new = same_end r (ap (λ y. (N' y).right) f ∙ right-p) in

@@ -1,6 +1,7 @@
 -- The invariant holds after the delivery of a SetL. If it is taken, its number is the one that the
 -- predecessor keeps, and then it names the predecessor, or a lower one, and then the notice with
 -- that number still waits. If it is old, it was not that notice. Assumes nothing.
+use Rattle.std.specs.Prelude.{Some}
 use mathlib.Core.Path.{◌≡◌, refl, sym, ap, ◌∙◌}
 use mathlib.Core.Logic.{⊎_elim, ◌≢◌}
 use mathlib.Core.Bool.{Bool, true, false}
@@ -11,7 +12,6 @@ use Rattle.predicates.proofs.TestLaws.{◌∈◌, holds, is_true, not-both}
 use Rattle.sequence.specs.Sequence.{Number, newer}
 use Rattle.sequence.proofs.Laws.{Newer, newer-total}
 use Rattle.parts.specs.declared.Status.TheVariants.{Ins}
-use Rattle.parts.specs.declared.Link.TheVariants.{To}
 use Rattle.parts.specs.declared.Kind.TheVariants.{SetL}
 use Rattle.parts.specs.declared.Message.{Message}
 use Rattle.node.specs.declared.Node.{Node}
@@ -96,7 +96,7 @@ takes-kept {N} {N'} {M} {rest} {p = p} {i} {a} {n} limited inv t new at = heard 
       reached = rw lseq (k.noticed p a n t.waits);
       noticed = λ w b l j. k.noticed w b l (t.left _ j);
       named = λ w b j. k.named w b (t.left _ j);
-      current = λ e. ap left_of at.self ∙ ap To (k.named p a (rw (sym lseq ∙ e) at t.waits));
+      current = λ e. ap left_of at.self ∙ ap Some (k.named p a (rw (sym lseq ∙ e) at t.waits));
       awaited = λ d.
           let (w, b, j) = k.awaited (λ e. k.noticed p a n t.waits (rw e at (holds new))) in
           (w, b, ⊎_elim (λ e. absurd (d (lseq ∙ sym (same_number e)))) (λ l. l) (t.either _ j));

@@ -1,6 +1,7 @@
 -- The invariant holds after a declaration, and after a join or a leave that posts a request:
 -- whoever was inserted still is, and the request says what its sender's links and numbers say.
 -- Assumes nothing.
+use Rattle.std.specs.Prelude.{Some}
 use mathlib.Core.Path.{◌≡◌, refl, sym, ap, ◌∙◌}
 use mathlib.Core.Logic.{⊎_elim, ◌≢◌}
 use mathlib.Core.Bool.{Bool, true, false}
@@ -15,8 +16,6 @@ use Rattle.interval.proofs.Laws.{Between}
 use Rattle.sequence.specs.Sequence.{Number, next_seq}
 use Rattle.parts.specs.declared.Status.{Status}
 use Rattle.parts.specs.declared.Status.TheVariants.{Out, Ins, In, Del}
-use Rattle.parts.specs.declared.Link.TheVariants.{To}
-use Rattle.parts.specs.declared.Seq.TheVariants.{Is}
 use Rattle.parts.specs.declared.Kind.TheVariants.{SetR}
 use Rattle.parts.specs.declared.Message.{Message}
 use Rattle.node.specs.declared.Node.{Node}
@@ -193,7 +192,7 @@ module _ {N N' : ℕ → Node} {M : List Message} {told joins joins' : ℕ → B
       keys = unchanged at key_of refl
 
   -- R5.4: u asks to leave
-  pub leaves_kept : (p q n : ℕ) → (N i).status ≡ In → joins' i ≡ false → (N i).right ≡ To q → q ≢ i → (N i).rseq ≡ Is n
+  pub leaves_kept : (p q n : ℕ) → (N i).status ≡ In → joins' i ≡ false → (N i).right ≡ Some q → q ≢ i → (N i).rseq ≡ Some n
       → At N i (with_status Del (N i)) N' → Invariant N' (M ++ set_r i p q i (next_seq n) ∷ []) told joins'
   leaves_kept p q n is-in joins right not_alone number at = asked limited inv (record {
     at = at;
@@ -218,7 +217,7 @@ module _ {N N' : ℕ → Node} {M : List Message} {told joins joins' : ℕ → B
     keeps = λ R _ k. keep R k;
   })
     where
-      same_next : (k : ℕ) → Is n ≡ Is k → next_seq n ≡ next_seq k
+      same_next : (k : ℕ) → Some n ≡ Some k → next_seq n ≡ next_seq k
       same_next k e = let f : n ≡ k = cc in ap next_seq f
 
       keep : (R : ℕ) → Keeps N' M i R → Keeps N M i R

@@ -2,11 +2,12 @@
 -- network that a list of calls makes. The search follows the walk along right links; the ring has
 -- one owner, the walk meets it in fewer moves than there are members, and the members are no more
 -- than the nodes, which are the hops allowed. Assumes nothing.
+use Rattle.std.specs.Prelude.{Some}
 use mathlib.Core.Path.{◌≡◌, refl, sym, ap, ◌∙◌, subst}
 use mathlib.Core.Logic.{◌↔◌, ◌≢◌}
 use mathlib.Core.Bool.{true, false}
 use mathlib.Core.List.{List}
-use mathlib.Core.Option.{Option, none, some}
+use Rattle.std.specs.Prelude.{Option, None, Some}
 use Prim.Native.Nat.{ℕ, zero, suc, ◌+◌, ◌≤◌, ◌<◌}
 use native.Mathlib.Omega.{arith}
 use lib.ListN.{length}
@@ -26,8 +27,7 @@ use Rattle.links.proofs.Lists.{few-below}
 use Rattle.links.proofs.Trails.{same_end, move-to}
 use Rattle.links.proofs.Circuit.{linked-in, next-in}
 use Rattle.links.proofs.Owner.{KeyOwner, owner, reaches}
-use Rattle.parts.specs.declared.Link.{Link}
-use Rattle.parts.specs.declared.Link.TheVariants.{To}
+use Rattle.parts.specs.Tests.{Link}
 use Rattle.protocol.specs.declared.Reply.TheVariants.{Owner}
 use Rattle.protocol.specs.State.{State, declared, node_at, key_at, right_at, well_formed, inserted}
 use Rattle.protocol.specs.History.{history}
@@ -50,7 +50,7 @@ record Finds (s : State) (m u hops : ℕ) (walk : Walk) : Type 0 where
 
 module _ (s : State) (serial : ℕ) {L : List ℕ} (ring : Ring (key_at s) (right_at s) L) (o : KeyOwner (key_at s) (right_at s) serial L) where
   -- the search is at u, whose right link leads to q
-  module _ {u q : ℕ} (link : right_at s u ≡ To q) where
+  module _ {u q : ℕ} (link : right_at s u ≡ Some q) where
     -- where the test holds, u is the owner
     stops : (hops : ℕ) → u ∈ L → within (key_at s u) (key_at s q) serial ≡ true → Finds s o.node u hops (found u hops)
     stops hops i t =
@@ -147,8 +147,8 @@ always_found calls start serial e = go (first (owner_rules s start serial)) refl
     never_31 = others refl
 
     go : (o : Option Reason) → first (owner_rules s start serial) ≡ o → unless_refused o no (walked (owner_from s serial (hop_limit s) start 0)) ≡ no (plain 31) → ⊥
-    go none clear f =
+    go None clear f =
         let (_, (_, (ranged, (member, _)))) = cleared (owner_rules s start serial) clear in
         let finds = owner_found calls start serial (holds (not-false (inserted s start) member)) (holds (not-false (in_range serial) ranged)) in
         impossible (cc finds.answer)
-    go (some n) refuses f = never never_31 cc
+    go (Some n) refuses f = never never_31 cc

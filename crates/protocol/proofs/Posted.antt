@@ -4,7 +4,7 @@
 use mathlib.Core.Path.{◌≡◌, refl, sym}
 use mathlib.Core.Bool.{true, false, not}
 use mathlib.Core.List.{List, [], ◌∷◌, ◌++◌, map, append-nil}
-use mathlib.Core.Option.{Option, none, some}
+use Rattle.std.specs.Prelude.{Option, None, Some}
 use Prim.Native.Nat.{ℕ, ◌+◌, ◌*◌, ◌≤◌}
 use native.Mathlib.Omega.{arith}
 use lib.ListN.{length, length-append}
@@ -66,8 +66,8 @@ unfolding drain_of
 drain_refused_same s budget r e = go (first ((6 when not (well_formed s)) ∷ [])) e
   where
     go : (o : Option Reason) → (unless_refused o (refused s) (drained s (places budget s))).said ≡ no r → unless_refused o (refused s) (drained s (places budget s)) ≡ refused s r
-    go none f = impossible cc
-    go (some n) f = cc
+    go None f = impossible cc
+    go (Some n) f = cc
 
 -- ---- what is posted stands at the end of the queue, behind what remains
 posts-behind : (s : State) (call : Call) → accepted (effect_of s call).said ≡ true → (effect_of s call).state.messages ≡ remaining s call (effect_of s call).said ++ (effect_of s call).posts
@@ -85,10 +85,10 @@ pub posts_at_the_end : PostsClaim
 unfolding apply_of
 posts_at_the_end s call = go (first (rules_of s call)) (accepted_case s call)
   where
-    go : (o : Option Reason) → (o ≡ none → Accepted s call (effect_of s call))
+    go : (o : Option Reason) → (o ≡ None → Accepted s call (effect_of s call))
         → let r = unless_refused o (refused s) (effect_of s call) in r.state.messages ≡ remaining s call r.said ++ r.posts
-    go none a = posts-behind s call (is_true _ (accepted-said (a refl)))
-    go (some r) a = remaining-refused s call r
+    go None a = posts-behind s call (is_true _ (accepted-said (a refl)))
+    go (Some r) a = remaining-refused s call r
 
 -- ---- deliveries one after the other
 pub posts-of-all : (s : State) (places : List ℕ) → length (posts_of_all s places) ≡ posted s (map Deliver places)

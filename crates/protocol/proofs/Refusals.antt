@@ -5,7 +5,7 @@ use mathlib.Core.Path.{◌≡◌, refl, ap}
 use mathlib.Core.Logic.{⊎_elim, ◌↔◌}
 use mathlib.Core.Bool.{true, false, not, ◌&&◌}
 use mathlib.Core.List.{List}
-use mathlib.Core.Option.{Option, none, some}
+use Rattle.std.specs.Prelude.{Option, None, Some}
 use Prim.Native.Nat.{ℕ}
 use lib.ListN.{length}
 use lib.Dec.{T}
@@ -79,8 +79,8 @@ unfolding apply_of
 never-said s call {n} t e = go (first (rules_of s call)) refl e
   where
     go : (o : Option Reason) → first (rules_of s call) ≡ o → ¬ ((unless_refused o (refused s) (effect_of s call)).said ≡ no (plain n))
-    go none clear f = let u : T false = rw f at (accepted-said (accepted_case s call clear)) in u
-    go (some r) refuses f = never t cc
+    go None clear f = let u : T false = rw f at (accepted-said (accepted_case s call clear)) in u
+    go (Some r) refuses f = never t cc
 
 -- 31 is a question's
 pub calls_never_31 : (s : State) (call : Call) → ¬ ((apply_of s call).said ≡ no (plain 31))
@@ -94,7 +94,7 @@ calls_never_31 s call = never-said s call (rules call)
     rules (Deliver place) = others refl
 
 -- ---- so 6 says that the network is not well formed, and nothing else
-first-six : (s : State) (call : Call) → well_formed s ≡ false → first (rules_of s call) ≡ some (plain 6)
+first-six : (s : State) (call : Call) → well_formed s ≡ false → first (rules_of s call) ≡ Some (plain 6)
 first-six s (Order (Declare key)) e = rw e
 first-six s (Order (Create u)) e = rw e
 first-six s (Order (Join u p q)) e = rw e
@@ -118,5 +118,5 @@ owner_never_six s w start serial e = go (first (owner_rules s start serial)) ref
     walk lost f = impossible cc
 
     go : (o : Option Reason) → first (owner_rules s start serial) ≡ o → ¬ (unless_refused o no (walked (owner_from s serial (hop_limit s) start 0)) ≡ no (plain 6))
-    go none clear f = walk (owner_from s serial (hop_limit s) start 0) f
-    go (some r) refuses f = never rules cc
+    go None clear f = walk (owner_from s serial (hop_limit s) start 0) f
+    go (Some r) refuses f = never rules cc

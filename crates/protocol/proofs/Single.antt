@@ -1,5 +1,6 @@
 -- The invariant holds where a ring of one node begins, by a creation, and where it ends, by that
 -- node's going out alone. Assumes nothing.
+use Rattle.std.specs.Prelude.{Some}
 use mathlib.Core.Path.{◌≡◌, refl, sym, ap, ◌∙◌}
 use mathlib.Core.Logic.{◌≢◌}
 use mathlib.Core.Bool.{Bool, true, false}
@@ -16,8 +17,6 @@ use Rattle.links.proofs.Circuit.{no-ring, one-ring, alone-in}
 use Rattle.links.proofs.Trails.{same_end}
 use Rattle.parts.specs.declared.Status.{Status}
 use Rattle.parts.specs.declared.Status.TheVariants.{Out, Ins, In, Del}
-use Rattle.parts.specs.declared.Link.TheVariants.{To}
-use Rattle.parts.specs.declared.Seq.TheVariants.{Is}
 use Rattle.parts.specs.declared.Message.{Message}
 use Rattle.node.specs.declared.Node.{Node}
 use Rattle.node.specs.Actions.{set_r, set_l, with_status, created}
@@ -82,16 +81,16 @@ module _ {N N' : ℕ → Node} {M : List Message} {told told' joins : ℕ → Bo
           }
 
       number : (R : ℕ) → Keeps N' M i R → first_seq ≡ R
-      number R (stored f e) = let same : Is first_seq ≡ Is R = sym (ap rseq_of at.self) ∙ e in cc
+      number R (stored f e) = let same : Some first_seq ≡ Some R = sym (ap rseq_of at.self) ∙ e in cc
       number R (coming h w j) = absurd (settled_in.0 (sym (ap status_of at.self) ∙ h))
 
-      lefts : (v u : ℕ) (R : Number) → v ≡ i → (N' v).right ≡ To u → Keeps N' M v R → LeftLink N' M v u R
+      lefts : (v u : ℕ) (R : Number) → v ≡ i → (N' v).right ≡ Some u → Keeps N' M v R → LeftLink N' M v u R
       lefts v u R d r k =
           let here : u ≡ i = same_end r (ap (λ w. (N' w).right) d ∙ ap right_of at.self) in
           rw (d, here) (lone R (number R (rw d at k)))
 
   -- R5.3: u leaves alone
-  pub goes-alone-kept : {joins' : ℕ → Bool} → ((u : ℕ) → u ≢ i → joins' u ≡ joins u) → (N i).status ≡ In → (N i).right ≡ To i → told' i ≡ false → At N i (with_status Out (N i)) N' → Invariant N' M told' joins'
+  pub goes-alone-kept : {joins' : ℕ → Bool} → ((u : ℕ) → u ≢ i → joins' u ≡ joins u) → (N i).status ≡ In → (N i).right ≡ Some i → told' i ≡ false → At N i (with_status Out (N i)) N' → Invariant N' M told' joins'
   goes-alone-kept other_joins is-in alone own-told at = record {
     exchanges = record {
       joiners = λ u h. other_joins u (not-gone u Ins settled_out.0 h) ∙ inv.exchanges.joiners u (waited u Ins settled_out.0 h);

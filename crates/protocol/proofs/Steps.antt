@@ -1,6 +1,7 @@
 -- Each call keeps the invariant: what a call does, case by case of `Changes`, is handed to the
 -- lemma about that kind of step, with the state's lists read as the function of nodes that the
 -- invariant speaks of. Assumes nothing.
+use Rattle.std.specs.Prelude.{Some}
 use mathlib.Core.Path.{◌≡◌, refl, ap}
 use mathlib.Core.Logic.{◌⊎◌, inl, inr, ⊎_elim, ◌↔◌, ◌≢◌}
 use mathlib.Core.Bool.{Bool, true, false}
@@ -18,7 +19,6 @@ use Rattle.refusal.specs.Code.{Reason}
 use Rattle.refusal.specs.Rules.{no as refusal}
 use Rattle.sequence.specs.Sequence.{Number, next_seq, capped_next}
 use Rattle.parts.specs.declared.Status.TheVariants.{Out, Del}
-use Rattle.parts.specs.declared.Seq.TheVariants.{Is}
 use Rattle.parts.specs.declared.Message.{Message}
 use Rattle.parts.specs.Tests.{is_in_or_del, seq_of}
 use Rattle.node.specs.Actions.{set_r, set_r_ack, set_l, relinked}
@@ -116,7 +116,7 @@ module _ (h : History) (g : Good h) where
 
   -- a leaver whose request waits is declared, and has its right number
   number : {p new e : ℕ} {n : Number} {rest : List Message} (v : ℕ) → Taken h.state.messages (set_r v p new e n) rest
-      → status_at h.state v ≡ Del → (node_at h.state v).rseq ≡ Is (seq_of (node_at h.state v).rseq)
+      → status_at h.state v ≡ Del → (node_at h.state v).rseq ≡ Some (seq_of (node_at h.state v).rseq)
   number v t del =
       let fits = message-facts (length h.state.nodes) _ (g.well_formed.message _ t.waits) in
       number-named (g.well_formed.node v (ltb-true v _ fits.sender)) (ap is_in_or_del del)

@@ -1,5 +1,6 @@
 -- After every list of calls the network is well formed and the invariant holds: it holds of the
 -- empty network, and each call keeps it. The claim over lists is read off it. Assumes nothing.
+use Rattle.std.specs.Prelude.{Some}
 use mathlib.Core.Path.{◌≡◌, refl, sym, ap, ◌∙◌}
 use mathlib.Core.Logic.{◌↔◌, ◌≢◌}
 use mathlib.Core.Bool.{Bool, true, false}
@@ -17,7 +18,6 @@ use Rattle.sequence.proofs.Laws.{first_fits}
 use Rattle.links.proofs.Circuit.{no-ring, predecessor, circuit}
 use Rattle.parts.specs.declared.Status.{Status}
 use Rattle.parts.specs.declared.Status.TheVariants.{Out, Ins, In, Del}
-use Rattle.parts.specs.declared.Link.TheVariants.{To}
 use Rattle.parts.specs.declared.Kind.{Kind}
 use Rattle.parts.specs.declared.Kind.TheVariants.{SetR, SetRAck, SetRNak, SetL}
 use Rattle.parts.specs.declared.Message.{Message}
@@ -111,13 +111,13 @@ module _ {s : State} {told joins : ℕ → Bool} (w : WellFormed s) (inv : Invar
       go Del e = by_number (ap is_in_or_del e) (λ f. ins_not_del (sym f ∙ e))
 
   -- where no notice waits, the left link names the predecessor
-  left-holds : (u p : ℕ) → notice_waits s u ≡ false → Member (node_at s) s.messages p → right_at s p ≡ To u → left_at s u ≡ To p
+  left-holds : (u p : ℕ) → notice_waits s u ≡ false → Member (node_at s) s.messages p → right_at s p ≡ Some u → left_at s u ≡ Some p
   left-holds u p quiet m right =
       let (R, k) = keeps p m in
       let link = inv.order.lefts p u R m right k in
       go R link (ℕ_discrete (node_at s u).lseq R)
     where
-      go : (R : ℕ) → LeftLink (node_at s) s.messages p u R → Dec ((node_at s u).lseq ≡ R) → left_at s u ≡ To p
+      go : (R : ℕ) → LeftLink (node_at s) s.messages p u R → Dec ((node_at s u).lseq ≡ R) → left_at s u ≡ Some p
       go R link (yes e) = link.current e
       go R link (no d) = let (x, a, i) = link.awaited d in absurd (not-both (eq-eqb u u refl) (none_in (is_notice_to u) quiet i))
 

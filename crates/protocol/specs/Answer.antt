@@ -1,19 +1,18 @@
 -- R11.3, what an answer of the code says: its reply, or the reason of its refusal. Every contract
 -- of a function that gives an `Answer` reads it by `answered`. Definitions only.
-use Rattle.std.specs.Prelude.{Bool, true, false}
+use Rattle.std.specs.Prelude.{Bool, true, false, Result, Ok, Err}
+use Rattle.refusal.specs.declared.Refusal.{Refusal}
 use Rattle.refusal.specs.Code.{reason}
 use Rattle.refusal.specs.Rules.{Coded, done, no}
 use Rattle.node.specs.declared.Outcome.{Outcome}
 use Rattle.node.specs.declared.Outcome.TheVariants.{Created, Waiting, LeftAlone, Granted, Denied, Joined, Gone, JoinDenied, LeaveDenied, LeftSet, LeftOld, Dropped}
 use Rattle.protocol.specs.declared.Reply.{Reply}
 use Rattle.protocol.specs.declared.Reply.TheVariants.{Declared, Stepped, Owner, Ran, Inserted}
-use Rattle.protocol.specs.declared.Answer.{Answer}
-use Rattle.protocol.specs.declared.Answer.TheVariants.{Done, Refused}
 
 -- R11.3: a reply, or the reason of a refusal
-abbrev pub answered : Answer → Coded Reply
-answered (Done r) = done r
-answered (Refused r) = no (reason r)
+abbrev pub answered : Result Reply Refusal → Coded Reply
+answered (Ok r) = done r
+answered (Err r) = no (reason r)
 
 -- ---- R10.2: tests of what is said
 abbrev pub accepted : Coded Reply → Bool

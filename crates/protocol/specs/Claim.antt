@@ -1,9 +1,8 @@
 -- The claim over lists (docs/RULES.md, section 10): what holds after any list of calls from the
 -- empty network. It is stated here in full, and cites no proof. Definitions only.
-use Rattle.std.specs.Prelude.{ℕ, ◌+◌, ◌*◌, ◌<◌, ◌≤◌, ◌≡◌, false, not, List, [], ◌∷◌, length, T}
+use Rattle.std.specs.Prelude.{ℕ, ◌+◌, ◌*◌, ◌<◌, ◌≤◌, ◌≡◌, false, not, List, [], ◌∷◌, length, T, Some}
 use Rattle.predicates.specs.Tests.{bit, count}
 use Rattle.links.specs.Walk.{Circuit, Predecessor}
-use Rattle.parts.specs.declared.Link.TheVariants.{To}
 use Rattle.parts.specs.declared.Message.{Message}
 use Rattle.protocol.specs.declared.Call.{Call}
 use Rattle.protocol.specs.declared.Call.TheVariants.{Deliver}
@@ -58,7 +57,7 @@ pub record Ringed (s : State) : Type 0 where
   -- R10.7: just one inserted node has a right link to each inserted node
   pub predecessor : (u : ℕ) → Inserted s u → Predecessor (right_at s) (Inserted s) u
   -- R10.7: and where no SetL to a node waits, its left link names that one
-  pub left : (u p : ℕ) → Inserted s u → notice_waits s u ≡ false → Inserted s p → right_at s p ≡ To u → left_at s u ≡ To p
+  pub left : (u p : ℕ) → Inserted s u → notice_waits s u ≡ false → Inserted s p → right_at s p ≡ Some u → left_at s u ≡ Some p
 
 -- ---- R10.1: what holds after a list of calls
 pub record Sound (h : History) : Type 0 where

@@ -1,8 +1,7 @@
 -- A drain of a network (paper 01: run down; docs/RULES.md, section 8): deliveries one after the
 -- other, each at the lowest place where one is not refused, until nothing waits or a budget is
 -- spent. Definitions only.
-use Rattle.std.specs.Prelude.{ℕ, zero, suc, not, cond, List, [], ◌∷◌, ◌++◌, length}
-use Rattle.std.proofs.Math.Option.{Option, none, some}
+use Rattle.std.specs.Prelude.{ℕ, zero, suc, not, cond, List, [], ◌∷◌, ◌++◌, length, Option, None, Some}
 use Rattle.refusal.specs.Rules.{done, ◌when◌, ruled}
 use Rattle.parts.specs.declared.Message.{Message}
 use Rattle.protocol.specs.declared.Call.TheVariants.{Deliver}
@@ -13,8 +12,8 @@ use Rattle.protocol.specs.Answer.{accepted}
 
 -- R8.1: the lowest place where a delivery is not refused, of the k places from `place` on
 abbrev pub lowest_from : State → ℕ → ℕ → Option ℕ
-lowest_from s place zero = none
-lowest_from s place (suc k) = cond (accepted (apply_of s (Deliver place)).said) (some place) (lowest_from s (suc place) k)
+lowest_from s place zero = None
+lowest_from s place (suc k) = cond (accepted (apply_of s (Deliver place)).said) (Some place) (lowest_from s (suc place) k)
 
 -- R8.1: the lowest of all places
 abbrev pub lowest : State → Option ℕ
@@ -26,8 +25,8 @@ after_delivery s place = (apply_of s (Deliver place)).state
 
 -- R8.1: the place, and those of what is still to be done after a delivery there
 abbrev pub places_from : (State → List ℕ) → State → Option ℕ → List ℕ
-places_from rest s none = []
-places_from rest s (some place) = place ∷ rest (after_delivery s place)
+places_from rest s None = []
+places_from rest s (Some place) = place ∷ rest (after_delivery s place)
 
 -- R8.1: the places of the deliveries, in turn, while a message waits and the budget allows
 abbrev pub places : ℕ → State → List ℕ

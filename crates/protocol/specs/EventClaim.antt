@@ -1,11 +1,10 @@
 -- R10.3, what each event does to the ring: who is inserted, in which order, and along which right
 -- links. It is claimed of every list of calls and of any call after it, and cites no proof. What is
 -- said of the ring later can go by the event, and need not go by the call. Definitions only.
-use Rattle.std.specs.Prelude.{◌≡◌, ◌⊎◌, ◌↔◌, ◌≢◌, ℕ, T}
+use Rattle.std.specs.Prelude.{◌≡◌, ◌⊎◌, ◌↔◌, ◌≢◌, ℕ, T, Some}
 use mathlib.Core.List.{List, [], ◌∷◌, ◌++◌, Memᴰ}
 use Rattle.interval.specs.Interval.{between}
 use Rattle.links.specs.Ring.{Ring, with_member, without_member}
-use Rattle.parts.specs.declared.Link.TheVariants.{To}
 use Rattle.protocol.specs.declared.Call.{Call}
 use Rattle.protocol.specs.State.{State, key_at, right_at}
 use Rattle.protocol.specs.Events.{Event, stays, founded, admitted, released, emptied}
@@ -42,7 +41,7 @@ pub record Founds (s s' : State) (u : ℕ) : Type 0 where
   pub none_before : (w : ℕ) → ¬ Inserted s w
   pub inserted : (w : ℕ) → Inserted s' w ↔ (w ≡ u)
   pub key : key_at s' u ≡ key_at s u
-  pub right : right_at s' u ≡ To u
+  pub right : right_at s' u ≡ Some u
   pub order_before : Ordered s []
   pub order : Ordered s' (u ∷ [])
 
@@ -51,12 +50,12 @@ pub record Admits (s s' : State) (v p : ℕ) : Type 0 where
   pub next : ℕ
   pub new : ¬ Inserted s v
   pub behind : Inserted s p
-  pub right_before : right_at s p ≡ To next
+  pub right_before : right_at s p ≡ Some next
   pub between_keys : T (between (key_at s p) (key_at s next) (key_at s v))
   pub inserted : (u : ℕ) → Inserted s' u ↔ (Inserted s u ⊎ (u ≡ v))
   pub keys : (u : ℕ) → Inserted s' u → key_at s' u ≡ key_at s u
-  pub right_of_p : right_at s' p ≡ To v
-  pub right_of_v : right_at s' v ≡ To next
+  pub right_of_p : right_at s' p ≡ Some v
+  pub right_of_v : right_at s' v ≡ Some next
   pub rights : (u : ℕ) → Inserted s u → u ≢ p → right_at s' u ≡ right_at s u
   pub order : (L : List ℕ) → Ordered s L → Ordered s' (with_member (key_at s) v L)
 
@@ -66,18 +65,18 @@ pub record Releases (s s' : State) (v p : ℕ) : Type 0 where
   pub leaver : Inserted s v
   pub behind : Inserted s p
   pub differ : p ≢ v
-  pub right_before : right_at s p ≡ To v
-  pub right_of_v : right_at s v ≡ To next
+  pub right_before : right_at s p ≡ Some v
+  pub right_of_v : right_at s v ≡ Some next
   pub inserted : (u : ℕ) → Inserted s' u ↔ (Inserted s u × (u ≢ v))
   pub keys : (u : ℕ) → Inserted s u → key_at s' u ≡ key_at s u
-  pub right_of_p : right_at s' p ≡ To next
+  pub right_of_p : right_at s' p ≡ Some next
   pub rights : (u : ℕ) → Inserted s u → u ≢ p → right_at s' u ≡ right_at s u
   pub order : (L : List ℕ) → Ordered s L → Ordered s' (without_member v L)
 
 -- R10.3, u empties the ring: u alone was inserted, and now nobody is
 pub record Empties (s s' : State) (u : ℕ) : Type 0 where
   pub alone_before : (w : ℕ) → Inserted s w ↔ (w ≡ u)
-  pub right_before : right_at s u ≡ To u
+  pub right_before : right_at s u ≡ Some u
   pub none : (w : ℕ) → ¬ Inserted s' w
   pub order_before : Ordered s (u ∷ [])
   pub order : Ordered s' []

@@ -1,12 +1,11 @@
 -- What the ring means for the questions, what a drain is, and what is posted: claims beside the one
 -- over lists, each stated in full and citing no proof. Definitions only.
-use Rattle.std.specs.Prelude.{ℕ, ◌<◌, ◌≤◌, ◌≡◌, ◌≢◌, cond, List, [], ◌++◌, map, length, T}
+use Rattle.std.specs.Prelude.{ℕ, ◌<◌, ◌≤◌, ◌≡◌, ◌≢◌, cond, List, [], ◌++◌, map, length, T, Some}
 use Rattle.refusal.specs.Code.{plain}
 use Rattle.refusal.specs.Rules.{Coded, done, no}
 use Rattle.serial.specs.Serial.{in_range}
 use Rattle.interval.specs.Interval.{within}
 use Rattle.links.specs.Walk.{after}
-use Rattle.parts.specs.declared.Link.TheVariants.{To}
 use Rattle.parts.specs.declared.Message.{Message}
 use Rattle.protocol.specs.declared.Call.{Call}
 use Rattle.protocol.specs.declared.Call.TheVariants.{Order, Deliver}
@@ -25,7 +24,7 @@ use Rattle.protocol.specs.Drain.{places, deliver_all, drained, drain_of}
 pub record Owns (s : State) (serial u : ℕ) : Type 0 where
   pub inserted : Inserted s u
   pub next : ℕ
-  pub right : right_at s u ≡ To next
+  pub right : right_at s u ≡ Some next
   pub holds : T (within (key_at s u) (key_at s next) serial)
 
 -- R7.4: the answer is a node that so many hops from the start lead to, and it alone owns the serial

@@ -1,13 +1,12 @@
 -- What a network is asked without being changed: who is inserted, and which node owns a serial. A
 -- question has its refusals in their order, as a call has. Definitions only.
-use Rattle.std.specs.Prelude.{ℕ, zero, suc, not, cond, List, [], ◌∷◌, length}
+use Rattle.std.specs.Prelude.{ℕ, zero, suc, not, cond, List, [], ◌∷◌, length, Some, None}
 use Rattle.predicates.specs.Tests.{count_below, word_below}
 use Rattle.refusal.specs.Code.{plain}
 use Rattle.refusal.specs.Rules.{Coded, done, no, Rule, ◌when◌, ruled}
 use Rattle.serial.specs.Serial.{in_range}
 use Rattle.interval.specs.Interval.{within}
-use Rattle.parts.specs.declared.Link.{Link}
-use Rattle.parts.specs.declared.Link.TheVariants.{Unlinked, To}
+use Rattle.parts.specs.Tests.{Link}
 use Rattle.protocol.specs.declared.Reply.{Reply}
 use Rattle.protocol.specs.declared.Reply.TheVariants.{Owner, Inserted}
 use Rattle.protocol.specs.State.{State, declared, key_at, right_at, well_formed, inserted}
@@ -35,8 +34,8 @@ pub data Walk : Type 0 where
 -- R7.1, at node u, after some hops: u is the owner if the serial is in [key, key of right link),
 -- and else it is looked for from the right link on; R7.2: a missing right link ends the walk
 abbrev pub owner_at : State → ℕ → ℕ → ℕ → Link → (ℕ → Walk) → Walk
-owner_at s serial u hops Unlinked beyond = lost
-owner_at s serial u hops (To q) beyond = cond (within (key_at s u) (key_at s q) serial) (found u hops) (beyond q)
+owner_at s serial u hops None beyond = lost
+owner_at s serial u hops (Some q) beyond = cond (within (key_at s u) (key_at s q) serial) (found u hops) (beyond q)
 
 -- R7.1: from node to node, with so many hops left to make; R7.2: without success they end it
 abbrev pub owner_from : State → ℕ → ℕ → ℕ → ℕ → Walk

@@ -6,9 +6,8 @@ use Rattle.predicates.specs.Tests.{count, any, every, every_below}
 use Rattle.sequence.specs.Sequence.{is_seq}
 use Rattle.parts.specs.declared.Status.{Status}
 use Rattle.parts.specs.declared.Status.TheVariants.{Out, Ins, In, Del}
-use Rattle.parts.specs.declared.Link.{Link}
 use Rattle.parts.specs.declared.Message.{Message}
-use Rattle.parts.specs.Tests.{is_request, is_ack, is_answer, is_notice, seq_fits, number_fits}
+use Rattle.parts.specs.Tests.{Link, is_request, is_ack, is_answer, is_notice, seq_fits, number_fits}
 use Rattle.parts.specs.Shape.{message_fits}
 use Rattle.node.specs.declared.Node.{Node}
 use Rattle.node.specs.Shape.{declared_of, capacity, node_fits}

@@ -9,7 +9,7 @@ use refusal::Refusal;
 
 // What a person asks of the network. Any arguments that fit their types: whether a node is declared
 // is for the rules to say.
-#[derive(Clone, Copy)]
+#[derive(Clone, Copy, Debug, PartialEq, Eq)]
 pub enum Order {
     Declare(u32),
     Create(u8),
@@ -18,7 +18,7 @@ pub enum Order {
 }
 
 // What changes a network: an order, or the delivery of the message at a place of the queue.
-#[derive(Clone, Copy)]
+#[derive(Clone, Copy, Debug, PartialEq, Eq)]
 pub enum Call {
     Order(Order),
     Deliver(u8),
@@ -27,7 +27,7 @@ pub enum Call {
 // What is answered where nothing is refused: to a declaration; to any other call, by what the node
 // did; to the question for an owner; to a drain; and to the question who is inserted, as a word
 // with bit n for node n and the number of its ones.
-#[derive(Clone, Copy)]
+#[derive(Clone, Copy, Debug, PartialEq, Eq)]
 pub enum Reply {
     Declared { number: u8, key: u32 },
     Stepped(Outcome),
@@ -36,8 +36,4 @@ pub enum Reply {
     Inserted { word: u32, size: u32 },
 }
 
-#[derive(Clone, Copy)]
-pub enum Answer {
-    Done(Reply),
-    Refused(Refusal),
-}
+pub type Answer = Result<Reply, Refusal>;

@@ -3,7 +3,7 @@
 use mathlib.Core.Path.{◌≡◌, refl, sym, ap, ◌∙◌}
 use mathlib.Core.Bool.{Bool, true, false, ◌||◌, cond, true≢false}
 use mathlib.Core.List.{List, [], ◌∷◌, ◌++◌}
-use mathlib.Core.Option.{none, some, none-ne-some, some-ne-none}
+use Rattle.std.specs.Prelude.{None, Some}
 use Prim.Native.Nat.{ℕ, ◌-◌}
 use lib.ListN.{get_or}
 use lib.Dec.{ltb, eqb}
@@ -52,7 +52,7 @@ pub reason_injective : (r s : Refusal) → reason r ≡ reason s → r ≡ s
 reason_injective r s e = code_injective r s cc
 
 -- ---- rules after other rules
-pub first_append : (rules rest : List Rule) → first (rules ++ rest) ≡ unless_refused (first rules) some (first rest)
+pub first_append : (rules rest : List Rule) → first (rules ++ rest) ≡ unless_refused (first rules) Some (first rest)
 first_append [] rest = refl
 first_append (rule r true ∷ rules) rest = refl
 first_append (rule r false ∷ rules) rest = first_append rules rest
@@ -62,9 +62,9 @@ abbrev pub Cleared : List Rule → Type 0
 Cleared [] = Unit {0}
 Cleared (rule r refuses ∷ rules) = (refuses ≡ false) × Cleared rules
 
-pub cleared : (rules : List Rule) → first rules ≡ none → Cleared rules
+pub cleared : (rules : List Rule) → first rules ≡ None → Cleared rules
 cleared [] e = tt
-cleared (rule r true ∷ rules) e = absurd (some-ne-none r e)
+cleared (rule r true ∷ rules) e = absurd (true≢false cc)
 cleared (rule r false ∷ rules) e = (refl, cleared rules e)
 
 -- ---- a number that is not given: each rule has another, or its condition does not hold where no
@@ -74,12 +74,12 @@ pub data Never (n : ℕ) : List Rule → Type 0 where
   other : {m : ℕ} {refuses : Bool} {rules : List Rule} → eqb m n ≡ false → (refuses ≡ false → Never n rules) → Never n (rule (plain m) refuses ∷ rules)
   fails : {m : ℕ} {refuses : Bool} {rules : List Rule} → refuses ≡ false → Never n rules → Never n (rule (plain m) refuses ∷ rules)
 
-pub never : {n : ℕ} {rules : List Rule} → Never n rules → first rules ≡ some (plain n) → ⊥
-never end e = none-ne-some _ e
+pub never : {n : ℕ} {rules : List Rule} → Never n rules → first rules ≡ Some (plain n) → ⊥
+never end e = absurd (true≢false cc)
 never {n} (other {m} {refuses} {rules} d t) e = go refuses refl (λ f. never (t f))
   where
-    go : (b : Bool) → refuses ≡ b → (refuses ≡ false → first rules ≡ some (plain n) → ⊥) → ⊥
-    go true f later = let given : some (plain m) ≡ some (plain n) = rw f at e in let same : m ≡ n = cc in eqb-false m n d same
+    go : (b : Bool) → refuses ≡ b → (refuses ≡ false → first rules ≡ Some (plain n) → ⊥) → ⊥
+    go true f later = let given : Some (plain m) ≡ Some (plain n) = rw f at e in let same : m ≡ n = cc in eqb-false m n d same
     go false f later = later f (rw f at e)
 never (fails f t) e = never t (rw f at e)
 

@@ -1,9 +1,7 @@
 -- R6.1, how a call refuses: its rules stand in their order, and the first whose condition holds
 -- gives its reason. Definitions only.
-use Rattle.std.specs.Prelude.{ℕ, Bool, cond, List, [], ◌∷◌}
-use Rattle.std.proofs.Math.Option.{Option, none, some}
-use Rattle.refusal.specs.declared.Check.{Check}
-use Rattle.refusal.specs.declared.Check.TheVariants.{Clear, Refuse}
+use Rattle.std.specs.Prelude.{ℕ, Bool, cond, List, [], ◌∷◌, Option, None, Some, Result, Ok, Err}
+use Rattle.refusal.specs.declared.Refusal.{Refusal}
 use Rattle.refusal.specs.Code.{Reason, plain, reason}
 
 -- R6.1: what a call says: its answer, or the reason of a refusal
@@ -22,18 +20,18 @@ n when refuses = rule (plain n) refuses
 
 -- R6.1: the first condition that holds refuses, and none where none holds
 abbrev pub first : List Rule → Option Reason
-first [] = none
-first (rule r refuses ∷ rules) = cond refuses (some r) (first rules)
+first [] = None
+first (rule r refuses ∷ rules) = cond refuses (Some r) (first rules)
 
 -- R11.3: what the code's check says
-abbrev pub checked : Check → Option Reason
-checked Clear = none
-checked (Refuse r) = some (reason r)
+abbrev pub checked : {A : Type 0} → Result A Refusal → Option Reason
+checked (Ok a) = None
+checked (Err r) = Some (reason r)
 
 -- R6.1: what comes of a call: `refused` of the reason, or else what is accepted
 abbrev pub unless_refused : {B : Type 0} → Option Reason → (Reason → B) → B → B
-unless_refused none refused accepted = accepted
-unless_refused (some r) refused accepted = refused r
+unless_refused None refused accepted = accepted
+unless_refused (Some r) refused accepted = refused r
 
 -- R6.1: what comes of a call with these rules
 abbrev pub ruled : {B : Type 0} → List Rule → (Reason → B) → B → B

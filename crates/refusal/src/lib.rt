@@ -2,79 +2,47 @@
 // rules of refusal in their order (R6.1).
 #![tactic(auto)]
 
-ghost use Rattle.std.specs.Prelude.{◌≡◌, cond};
-ghost use Rattle.std.proofs.Math.Option.{some};
+ghost use Rattle.std.specs.Prelude.{◌≡◌, cond, Some, None};
 ghost use Rattle.refusal.specs.Code.{code, reason};
 ghost use Rattle.refusal.specs.Rules.{checked};
 
 // No case carries anything but its number.
-#[derive(Clone, Copy)]
+#[derive(Clone, Copy, Debug, PartialEq, Eq)]
 pub enum Refusal {
     // From the input.
-    UnknownMark,
-    CutShort,
-    BadDigit,
-    SerialTooLarge,
-    Undeclared,
-    Malformed,
-    ScriptTooLong,
+    UnknownMark = 1,
+    CutShort = 2,
+    BadDigit = 3,
+    SerialTooLarge = 4,
+    Undeclared = 5,
+    Malformed = 6,
+    ScriptTooLong = 7,
     // From the state.
-    NetworkFull,
-    KeyTaken,
-    NotAllOut,
-    NotOut,
-    NotBetween,
-    NoticeWaiting,
-    NotIn,
-    SequenceSpent,
-    QueueFull,
-    NoMessage,
-    StartNotInserted,
-    OwnerNotFound,
+    NetworkFull = 20,
+    KeyTaken = 21,
+    NotAllOut = 22,
+    NotOut = 23,
+    NotBetween = 24,
+    NoticeWaiting = 25,
+    NotIn = 26,
+    SequenceSpent = 27,
+    QueueFull = 28,
+    NoMessage = 29,
+    StartNotInserted = 30,
+    OwnerNotFound = 31,
 }
 
 impl Refusal {
     pub fn number(self) -> u8
         ensures { result ≡ code self }
     {
-        match self {
-            Refusal::UnknownMark => 1,
-            Refusal::CutShort => 2,
-            Refusal::BadDigit => 3,
-            Refusal::SerialTooLarge => 4,
-            Refusal::Undeclared => 5,
-            Refusal::Malformed => 6,
-            Refusal::ScriptTooLong => 7,
-            Refusal::NetworkFull => 20,
-            Refusal::KeyTaken => 21,
-            Refusal::NotAllOut => 22,
-            Refusal::NotOut => 23,
-            Refusal::NotBetween => 24,
-            Refusal::NoticeWaiting => 25,
-            Refusal::NotIn => 26,
-            Refusal::SequenceSpent => 27,
-            Refusal::QueueFull => 28,
-            Refusal::NoMessage => 29,
-            Refusal::StartNotInserted => 30,
-            Refusal::OwnerNotFound => 31,
-        }
+        self as u8
     }
 }
 
-// What the rules of a call come to: nothing against it, or its first refusal.
-#[derive(Clone, Copy)]
-pub enum Check {
-    Clear,
-    Refuse(Refusal),
-}
-
-// One more rule, before those of `rest`.
-pub fn rule(refuses: bool, refusal: Refusal, rest: Check) -> Check
-    ensures { checked result ≡ cond refuses (some (reason refusal)) (checked rest) }
+// One rule of a call, which goes on with `?` where it does not refuse.
+pub fn refuse_if(refuses: bool, refusal: Refusal) -> Result<(), Refusal>
+    ensures { checked result ≡ cond refuses (Some (reason refusal)) None }
 {
-    if refuses {
-        Check::Refuse(refusal)
-    } else {
-        rest
-    }
+    if refuses { Err(refusal) } else { Ok(()) }
 }

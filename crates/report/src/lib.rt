@@ -12,7 +12,7 @@ use protocol::{Answer, Reply};
 use refusal::Refusal;
 
 // The answer, and how many messages were posted.
-#[derive(Clone, Copy)]
+#[derive(Clone, Copy, Debug, PartialEq, Eq)]
 pub struct Report {
     pub answer: Answer,
     pub posted: u32,
@@ -28,14 +28,11 @@ pub fn told(answer: Answer) -> Report
 pub fn refused(refusal: Refusal) -> Report
     ensures { (answered result.answer ≡ no (reason refusal)) × (result.posted ≡ 0) }
 {
-    Report {
-        answer: Answer::Refused(refusal),
-        posted: 0,
-    }
+    told(Err(refusal))
 }
 
 // What a drain has done so far: the deliveries made, and the messages that they posted.
-#[derive(Clone, Copy)]
+#[derive(Clone, Copy, Debug, PartialEq, Eq)]
 pub struct Tally {
     pub made: u16,
     pub posted: u32,
@@ -69,7 +66,7 @@ pub fn ran(tally: Tally, left: u8) -> Report
     ensures { (answered result.answer ≡ done (Ran tally.made left)) × (result.posted ≡ tally.posted) }
 {
     Report {
-        answer: Answer::Done(Reply::Ran {
+        answer: Ok(Reply::Ran {
             made: tally.made,
             left,
         }),

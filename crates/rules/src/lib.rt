@@ -14,86 +14,64 @@ use decision::Decision;
 use network::CAPACITY;
 use node::Node;
 use protocol::Order;
-use refusal::{Check, Refusal};
+use refusal::{Refusal, refuse_if};
 use searches::Found;
 
 // R6.5.
-fn decide_declare(key: u32, count: u8, taken: bool) -> Decision
+fn decide_declare(key: u32, count: u8, taken: bool) -> Result<Decision, Refusal>
     ensures { decided result ≡ declare_decision key count taken }
 {
-    let check = refusal::rule(
-        !serial::in_range(key),
-        Refusal::SerialTooLarge,
-        refusal::rule(
-            !(count < CAPACITY),
-            Refusal::NetworkFull,
-            refusal::rule(taken, Refusal::KeyTaken, Check::Clear),
-        ),
-    );
-    decision::unless_refused(check, decision::adding(count, key))
+    refuse_if(!serial::in_range(key), Refusal::SerialTooLarge)?;
+    refuse_if(CAPACITY <= count, Refusal::NetworkFull)?;
+    refuse_if(taken, Refusal::KeyTaken)?;
+    Ok(decision::adding(count, key))
 }
 
 // R6.6.
-fn decide_create(number: u8, count: u8, node: Node, found: Found) -> Decision
+fn decide_create(number: u8, count: u8, node: Node, found: Found) -> Result<Decision, Refusal>
     ensures { decided result ≡ create_decision number count node found }
 {
-    let check = refusal::rule(
-        !(number < count),
-        Refusal::Undeclared,
-        refusal::rule(
-            found.standing,
-            Refusal::NotAllOut,
-            refusal::rule(found.notice, Refusal::NoticeWaiting, Check::Clear),
-        ),
-    );
-    decision::unless_refused(check, decision::stepping(number, node.create(number)))
+    refuse_if(count <= number, Refusal::Undeclared)?;
+    refuse_if(found.standing, Refusal::NotAllOut)?;
+    refuse_if(found.notice, Refusal::NoticeWaiting)?;
+    decision::stepping(number, node.create(number))
 }
 
-// R6.7.
-fn decide_join(number: u8, left: u8, right: u8, sight: Sight, notice: bool) -> Decision
+// R6.7: the refusals of the node's own step come between those of the network.
+fn decide_join(
+    number: u8,
+    left: u8,
+    right: u8,
+    sight: Sight,
+    notice: bool,
+) -> Result<Decision, Refusal>
     ensures { decided result ≡ join_decision number left right sight notice }
 {
     let count = sight.count;
-    let node = sight.node;
-    let before = sight.left;
-    let beyond = sight.right;
-    let step = node.join_unchecked(
-        number,
-        decision::peer(left, before),
-        decision::peer(right, beyond),
-    );
-    let verdict = step.verdict;
-    let posts = step.posts;
-    let rest = refusal::rule(
-        notice,
-        Refusal::NoticeWaiting,
-        decision::check_room(sight.waiting, posts),
-    );
-    let check = refusal::rule(
-        !((number < count) & ((left < count) & (right < count))),
-        Refusal::Undeclared,
-        decision::after_step(verdict, rest),
-    );
-    decision::unless_refused(check, decision::stepping(number, step))
+    let known = (number < count) & ((left < count) & (right < count));
+    refuse_if(!known, Refusal::Undeclared)?;
+    let before = decision::peer(left, sight.left);
+    let beyond = decision::peer(right, sight.right);
+    let step = sight.node.join_unchecked(number, before, beyond);
+    step.verdict?;
+    refuse_if(notice, Refusal::NoticeWaiting)?;
+    decision::check_room(sight.waiting, step.posts)?;
+    decision::stepping(number, step)
 }
 
 // R6.8.
-fn decide_leave(number: u8, count: u8, waiting: u8, node: Node) -> Decision
+fn decide_leave(number: u8, count: u8, waiting: u8, node: Node) -> Result<Decision, Refusal>
     ensures { decided result ≡ leave_decision number count waiting node }
 {
+    refuse_if(count <= number, Refusal::Undeclared)?;
     let step = node.leave_unchecked(number);
-    let verdict = step.verdict;
-    let posts = step.posts;
-    let check = refusal::rule(
-        !(number < count),
-        Refusal::Undeclared,
-        decision::after_step(verdict, decision::check_room(waiting, posts)),
-    );
-    decision::unless_refused(check, decision::stepping(number, step))
+    step.verdict?;
+    decision::check_room(waiting, step.posts)?;
+    decision::stepping(number, step)
 }
 
 // An order, from what it looks at.
-pub fn decide_order(order: Order, sight: Sight, found: Found) -> Decision
+pub fn decide_order(order: Order, sight: Sight, found: Found) -> Result<Decision, Refusal>
     ensures { decided result ≡ order_decision order sight found }
 {
     let count = sight.count;
@@ -111,20 +89,13 @@ pub fn decide_order(order: Order, sight: Sight, found: Found) -> Decision
 }
 
 // A delivery, from what it looks at (R6.9).
-pub fn decide_delivery(place: u8, arrival: Arrival) -> Decision
+pub fn decide_delivery(place: u8, arrival: Arrival) -> Result<Decision, Refusal>
     ensures { decided result ≡ delivery_decision place arrival }
 {
     let waiting = arrival.waiting;
     let message = arrival.message;
-    let node = arrival.node;
-    let to = message.to;
-    let kind = message.kind;
-    let step = node.act(to, message.sender, kind);
-    let posts = step.posts;
-    let check = refusal::rule(
-        !(place < waiting),
-        Refusal::NoMessage,
-        decision::check_room(decision::one_less(waiting), posts),
-    );
-    decision::unless_refused(check, decision::delivering(place, to, step))
+    refuse_if(waiting <= place, Refusal::NoMessage)?;
+    let step = arrival.node.act(message.to, message.sender, message.kind);
+    decision::check_room(waiting.saturating_sub(1), step.posts)?;
+    decision::delivering(place, message.to, step)
 }

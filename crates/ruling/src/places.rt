@@ -6,26 +6,23 @@ use network::{Network, QUEUE_LIMIT};
 
 // Whether a delivery at a place finds room for what it posts: only a full queue has none, and only
 // for a request that would be granted.
-fn finds_room(network: Network, place: u8) -> bool
-    ensures { result ≡ finds_room network place }
+fn finds_room(network: &Network, place: u8) -> bool
+    ensures { result ≡ finds_room network.now place }
 {
-    let arrival = access::met(network, place);
-    let node = arrival.node;
+    let arrival = access::meet(network, place);
     let message = arrival.message;
-    let kind = message.kind;
-    (network.waiting < QUEUE_LIMIT) | !node.would_grant(message.sender, kind)
+    (network.waiting < QUEUE_LIMIT) | !arrival.node.would_grant(message.sender, message.kind)
 }
 
-// The lowest place where a delivery finds room; 0 where there is none.
-pub fn lowest(network: Network) -> u8
-    ensures { result ≡ lowest_place network }
+// The lowest place where a delivery finds room; 0 where there is none. Not by `find`: what it ensures of a
+// range did not lead to the definition.
+pub fn lowest(network: &Network) -> u8
+    ensures { result ≡ lowest_place network.now }
 {
-    let mut place: u8 = 0;
-    while place < network.waiting {
+    for place in 0..network.waiting {
         if finds_room(network, place) {
             return place;
         }
-        place += 1;
     }
     0
 }

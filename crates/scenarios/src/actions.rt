@@ -1,10 +1,9 @@
 // What nodes do where messages come late, overtake each other, or find their node changed. No
 // script has an answer dropped: none waits for a node that is out or in (R2.7).
-use crate::scene;
-use model::sheet::Sheet;
+use crate::{Run, scene};
 use std::io;
 
-pub(crate) fn notices(rt: &impl Print, run: &mut Sheet) -> io::Result<()> {
+pub(crate) fn notices(rt: &impl Print, run: &mut Run) -> io::Result<()> {
     // R5.6, R5.7, R5.12: three nodes come in on the left of node 0, one behind the other. Each
     // notice is newer, so that node 0 asks the last of them.
     scene(
@@ -86,7 +85,7 @@ pub(crate) fn notices(rt: &impl Print, run: &mut Sheet) -> io::Result<()> {
     )
 }
 
-pub(crate) fn drops(rt: &impl Print, run: &mut Sheet) -> io::Result<()> {
+pub(crate) fn drops(rt: &impl Print, run: &mut Run) -> io::Result<()> {
     // R5.13: node 0 leaves alone before the request of node 1 comes. Node 1 goes on waiting for an
     // answer.
     scene(
@@ -138,7 +137,7 @@ pub(crate) fn drops(rt: &impl Print, run: &mut Sheet) -> io::Result<()> {
     )
 }
 
-pub(crate) fn denials(rt: &impl Print, run: &mut Sheet) -> io::Result<()> {
+pub(crate) fn denials(rt: &impl Print, run: &mut Run) -> io::Result<()> {
     // R5.5, R5.9, R5.11: each asks the other, and neither is in when it is asked; both are in
     // again, and one of them may leave.
     scene(

@@ -1,76 +1,55 @@
 // The parts of scripts that are long because they repeat: all 32 nodes are declared, many of them
 // join, and some leave again, while most of the messages that this posts go on waiting. Each
-// function puts records into a script, and answers the place after them.
+// function puts records behind those that a script has.
 ghost use Rattle.std.specs.Prelude.{◌≤◌};
-ghost use Rattle.io.specs.Counts.{IsPrefixLen};
 
-use crate::{line_end, show};
-use model::sheet::Sheet;
+use crate::{Run, line_end, show};
 use std::io;
+use text::Page;
 
-fn put(script: &mut [u8; 4096], at: usize, records: &[u8]) -> usize
-    requires { IsPrefixLen at script.old }
-    ensures { IsPrefixLen result script.new }
-{
-    text::append(script, at, records)
-}
+pub(crate) type Script = Page<4096>;
 
 // Node i has the key 32 - i. The keys fall, so that each node may join between node 0 and the node
 // before it.
-pub(crate) fn declare_all(script: &mut [u8; 4096]) -> usize
-    ensures { IsPrefixLen result script.new }
-{
-    let mut at: usize = 0;
+pub(crate) fn declare_all(script: &mut Script) {
     for node in 0..32 {
-        at = put(script, at, &[b'B', b'N', 32 - node, 0, 0, 0]);
+        script.append(&[b'B', b'N', 32 - node, 0, 0, 0]);
     }
-    at
 }
 
 // Node 0 is created, and nodes 1 to `last` ask it to join. Delivered in this order each is granted,
 // since it names as right neighbour the node that came in before it.
-pub(crate) fn ask_all(script: &mut [u8; 4096], at: usize, last: u8) -> usize
-    requires { IsPrefixLen at script.old }
-    ensures { IsPrefixLen result script.new }
-{
-    let mut at = put(script, at, b"CR\x00");
+pub(crate) fn ask_all(script: &mut Script, last: u8) {
+    script.append(b"CR\x00");
     for before in 0..last {
-        at = put(script, at, &[b'J', b'N', before + 1, 0, before]);
+        script.append(&[b'J', b'N', before + 1, 0, before]);
     }
-    at
 }
 
 // From node `last` downwards so many nodes leave again: each hears its answer and asks node 0 to
 // leave, and this request, the last message, is delivered and granted. Each of them adds one to the
 // messages that wait.
-fn leave_again(script: &mut [u8; 4096], at: usize, last: u8, leavers: u8) -> usize
-    requires { IsPrefixLen at script.old × (leavers ≤ last) × (last ≤ 31) }
-    ensures { IsPrefixLen result script.new }
+fn leave_again(script: &mut Script, last: u8, leavers: u8)
+    requires { (leavers ≤ last) × (last ≤ 31) }
 {
-    let mut at = at;
     for gone in 0..leavers {
         let node = last - gone;
-        at = put(script, at, &[b'D', b'L', 2 * node - 1]);
-        at = put(script, at, &[b'L', b'V', node]);
-        at = put(script, at, &[b'D', b'L', 2 * last + gone - 1]);
+        script.append(&[b'D', b'L', 2 * node - 1]);
+        script.append(&[b'L', b'V', node]);
+        script.append(&[b'D', b'L', 2 * last + gone - 1]);
     }
-    at
 }
 
 // Shows a script that begins with the records put so far, and goes on with those behind a title.
 pub(crate) fn show_on(
     rt: &impl Print,
-    run: &mut Sheet,
-    script: [u8; 4096],
-    at: usize,
+    run: &mut Run,
+    script: &mut Script,
     text: &[u8],
-) -> io::Result<()>
-    requires { IsPrefixLen at script }
-{
-    let mut script = script;
+) -> io::Result<()> {
     let start = line_end(text);
-    let used = put(&mut script, at, &text[start..]);
-    show(rt, run, &text[0..start], &script[..used])
+    script.append(&text[start..]);
+    show(rt, run, &text[0..start], script.as_bytes())
 }
 
 // Shows a script that begins with joins and leaves. RD delivers just the requests to join. Then 2 *
@@ -78,17 +57,17 @@ pub(crate) fn show_on(
 // i - 1. After the leaves 2 * joiners + leavers wait.
 pub(crate) fn scene_after(
     rt: &impl Print,
-    run: &mut Sheet,
+    run: &mut Run,
     joiners: u8,
     leavers: u8,
     text: &[u8],
 ) -> io::Result<()>
     requires { (leavers ≤ joiners) × (joiners ≤ 31) }
 {
-    let mut script = [0u8; 4096];
-    let at = declare_all(&mut script);
-    let at = ask_all(&mut script, at, joiners);
-    let at = put(&mut script, at, &[b'R', b'D', joiners, 0]);
-    let at = leave_again(&mut script, at, joiners, leavers);
-    show_on(rt, run, script, at, text)
+    let mut script = Script::new();
+    declare_all(&mut script);
+    ask_all(&mut script, joiners);
+    script.append(&[b'R', b'D', joiners, 0]);
+    leave_again(&mut script, joiners, leavers);
+    show_on(rt, run, &mut script, text)
 }

@@ -1,9 +1,8 @@
 // Where a drain ends, and what it delivers.
-use crate::{crowd, scene};
-use model::sheet::Sheet;
+use crate::{Run, crowd, scene};
 use std::io;
 
-pub(crate) fn cases(rt: &impl Print, run: &mut Sheet) -> io::Result<()> {
+pub(crate) fn cases(rt: &impl Print, run: &mut Run) -> io::Result<()> {
     // R8.1, R8.2, R9.3: budgets of 0, of 1 and 2 with more waiting, and of 256 and 65,535 with
     // less.
     scene(
@@ -28,15 +27,14 @@ pub(crate) fn cases(rt: &impl Print, run: &mut Sheet) -> io::Result<()> {
 // R8.1, R6.10, refusal 28: the request of node 31 comes to stand at place 0, before the notices and
 // answers of the nodes 1 to 30, and once 30, 29 and 28 have left, 64 messages wait and node 0 would
 // grant it. A drain of 1 delivers the notice at place 1; then, with 63 waiting, the request.
-fn refused_place(rt: &impl Print, run: &mut Sheet) -> io::Result<()> {
-    let mut script = [0u8; 4096];
-    let at = crowd::declare_all(&mut script);
-    let at = crowd::ask_all(&mut script, at, 30);
+fn refused_place(rt: &impl Print, run: &mut Run) -> io::Result<()> {
+    let mut script = crowd::Script::new();
+    crowd::declare_all(&mut script);
+    crowd::ask_all(&mut script, 30);
     crowd::show_on(
         rt,
         run,
-        script,
-        at,
+        &mut script,
         b"with 64 waiting, a drain passes over a request that is refused 28\n\
           JN\x1f\x00\x1b\
           RD\x1e\x00\

@@ -1,9 +1,8 @@
 // The fitter's cases of paper 01 that it does not mark †.
-use crate::{crowd, scene};
-use model::sheet::Sheet;
+use crate::{Run, crowd, scene};
 use std::io;
 
-pub(crate) fn cases(rt: &impl Print, run: &mut Sheet) -> io::Result<()> {
+pub(crate) fn cases(rt: &impl Print, run: &mut Run) -> io::Result<()> {
     // R9.4, R9.5, refusal 4: the same four bytes are too large in binary, and a key in packed form.
     scene(
         rt,
@@ -39,14 +38,13 @@ pub(crate) fn cases(rt: &impl Print, run: &mut Sheet) -> io::Result<()> {
 
 // R1.7, R6.5, refusal 20: neither a new key nor one that is taken finds a place, and node 31, the
 // last, can be created.
-fn full_network(rt: &impl Print, run: &mut Sheet) -> io::Result<()> {
-    let mut script = [0u8; 4096];
-    let at = crowd::declare_all(&mut script);
+fn full_network(rt: &impl Print, run: &mut Run) -> io::Result<()> {
+    let mut script = crowd::Script::new();
+    crowd::declare_all(&mut script);
     crowd::show_on(
         rt,
         run,
-        script,
-        at,
+        &mut script,
         b"no 20: a declaration after 32\n\
           BN\x21\x00\x00\x00\
           BN\x20\x00\x00\x00\

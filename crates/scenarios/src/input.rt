@@ -1,12 +1,9 @@
 // The refusals from the input. Only 1 and 2 stop the reading: after each of the others but 7 a
 // later record is done (R9.5).
-ghost use Rattle.std.specs.Prelude.{◌≡◌, length};
-
-use crate::{scene, show};
-use model::sheet::Sheet;
+use crate::{Run, scene, show};
 use std::io;
 
-pub(crate) fn marks(rt: &impl Print, run: &mut Sheet) -> io::Result<()> {
+pub(crate) fn marks(rt: &impl Print, run: &mut Run) -> io::Result<()> {
     // R9.7, R9.8, R1.8: the first line and the last.
     scene(rt, run, b"the empty script\n")?;
     // R9.2, R9.5, refusal 1: the declaration after it is not read.
@@ -38,7 +35,7 @@ pub(crate) fn marks(rt: &impl Print, run: &mut Sheet) -> io::Result<()> {
     )
 }
 
-pub(crate) fn fields(rt: &impl Print, run: &mut Sheet) -> io::Result<()> {
+pub(crate) fn fields(rt: &impl Print, run: &mut Run) -> io::Result<()> {
     // R9.4, R9.6, refusal 3: the first digit and the last, of a declaration and of a question.
     scene(
         rt,
@@ -113,19 +110,13 @@ pub(crate) fn fields(rt: &impl Print, run: &mut Sheet) -> io::Result<()> {
     )
 }
 
-// One byte more than a script may have.
-fn long_buffer() -> [u8; 65537]
-    ensures { 65_537 ≡ length result }
-{
-    [0; 65537]
-}
-
 // R9.1, refusal 7: both scripts begin with a declaration and go on with zeros, which are no mark.
-pub(crate) fn sizes(rt: &impl Print, run: &mut Sheet) -> io::Result<()> {
-    let mut too_long = long_buffer();
-    text::append(&mut too_long, 0, b"BC\x00\x00\x10\x00");
+pub(crate) fn sizes(rt: &impl Print, run: &mut Run) -> io::Result<()> {
+    let declaration = b"BC\x00\x00\x10\x00";
+    let mut too_long = [0u8; 65_537];
+    too_long[..6].copy_from_slice(declaration);
     show(rt, run, b"no 7: 65,537 bytes\n", &too_long)?;
-    let mut longest = [0u8; 65536];
-    text::append(&mut longest, 0, b"BC\x00\x00\x10\x00");
+    let mut longest = [0u8; 65_536];
+    longest[..6].copy_from_slice(declaration);
     show(rt, run, b"65,536 bytes are read\n", &longest)
 }

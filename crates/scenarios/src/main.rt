@@ -21,79 +21,50 @@ mod sheets;
 mod state;
 
 use model::printing::first_difference;
-use model::sheet::*;
-use model::text::Page;
 use std::io;
+use text::Page;
 
-// The sheet of the second implementation serves all scripts. In a row that it leaves alone stand
-// how many scripts were run, and how many differed.
-const RUN: usize = 16;
-
-const SCRIPTS: usize = 0;
-
-const DIFFERENT: usize = 1;
-
-fn write_count(rt: &impl Print, count: usize, what: &str) -> io::Result<()> {
-    print!(rt; "{count}{what}")
+// How many scripts were run, and at how many the second implementation differed.
+#[derive(Default, Drop)]
+pub(crate) struct Run {
+    scripts: usize,
+    different: usize,
 }
 
-// Counts a script, and says where its printouts differ, if they do.
-fn enter(rt: &impl Print, run: &mut Sheet, place: usize) -> io::Result<()> {
-    add(run, RUN, SCRIPTS, 1);
-    if place > 0 {
-        add(run, RUN, DIFFERENT, 1);
-        rt.print("== the second implementation differs at byte ")?;
-        write_count(rt, place, "\n")?;
-    }
-    Ok(())
-}
-
-// Runs a script through both implementations, and writes its title and the printout of the first.
-pub(crate) fn show(
-    rt: &impl Print,
-    run: &mut Sheet,
-    title: &[u8],
-    script: &[u8],
-) -> io::Result<()> {
-    let mut text: Page = [0u8; 1048576];
-    let used = engine::printout(script, &mut text);
+// Runs a script through both implementations, writes its title and the printout of the first, and
+// says where the two printouts differ, if they do.
+pub(crate) fn show(rt: &impl Print, run: &mut Run, title: &[u8], script: &[u8]) -> io::Result<()> {
+    let mut page = Page::new();
+    engine::printout(script, &mut page);
+    let printout = page.as_bytes();
     rt.write_all(b"== ")?;
     rt.write_all(title)?;
-    rt.write_all(&text[..used])?;
-    let place = first_difference(run, script, &text, used);
-    enter(rt, run, place)
+    rt.write_all(printout)?;
+    run.scripts = run.scripts.saturating_add(1);
+    if let Some(place) = first_difference(script, printout) {
+        run.different = run.different.saturating_add(1);
+        println!(rt; "== the second implementation differs at byte {place}")?;
+    }
+    Ok(())
 }
 
 // The place after the first line end, or after the text.
 pub(crate) fn line_end(text: &[u8]) -> usize
     ensures { result ≤ length text.now }
 {
-    for at in 0..text.len() {
-        if text[at] == b'\n' {
-            return at + 1;
-        }
-    }
-    text.len()
+    text.iter()
+        .position(|byte| *byte == b'\n')
+        .map_or(text.len(), |at| at + 1)
 }
 
 // Shows a script that stands behind its title, from the next line on.
-pub(crate) fn scene(rt: &impl Print, run: &mut Sheet, text: &[u8]) -> io::Result<()> {
-    let start = line_end(text);
-    show(rt, run, &text[0..start], &text[start..])
-}
-
-fn summary(rt: &impl Print, run: &Sheet) -> io::Result<()> {
-    rt.print("== ")?;
-    write_count(rt, get(run, RUN, SCRIPTS), " scripts, ")?;
-    write_count(
-        rt,
-        get(run, RUN, DIFFERENT),
-        " differ from the second implementation\n",
-    )
+pub(crate) fn scene(rt: &impl Print, run: &mut Run, text: &[u8]) -> io::Result<()> {
+    let (title, script) = text.split_at(line_end(text));
+    show(rt, run, title, script)
 }
 
 fn main(rt: HostRuntime) -> io::Result<()> {
-    let mut run: Sheet = [0usize; 4096];
+    let mut run = Run::default();
     fitter::cases(&rt, &mut run)?;
     input::marks(&rt, &mut run)?;
     input::fields(&rt, &mut run)?;
@@ -106,5 +77,6 @@ fn main(rt: HostRuntime) -> io::Result<()> {
     actions::denials(&rt, &mut run)?;
     drains::cases(&rt, &mut run)?;
     sheets::all(&rt, &mut run)?;
-    summary(&rt, &run)
+    let Run { scripts, different } = run;
+    println!(rt; "== {scripts} scripts, {different} differ from the second implementation")
 }

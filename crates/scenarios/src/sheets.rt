@@ -1,10 +1,9 @@
 // The sheets of the folder `examples`, one record to a line. There each record has a comment that
 // says what it does, and beside each sheet stands its printout, which is the same.
-use crate::scene;
-use model::sheet::Sheet;
+use crate::{Run, scene};
 use std::io;
 
-pub(crate) fn all(rt: &impl Print, run: &mut Sheet) -> io::Result<()> {
+pub(crate) fn all(rt: &impl Print, run: &mut Run) -> io::Result<()> {
     // R5.5, R5.9, R5.11: node 0 asks to leave before it has heard of its left neighbour, and so
     // asks and denies itself.
     scene(

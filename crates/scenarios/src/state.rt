@@ -1,10 +1,9 @@
 // The refusals from the state; 20 is among the fitter's cases. After each of them a later record is
 // done.
-use crate::{crowd, scene};
-use model::sheet::Sheet;
+use crate::{Run, crowd, scene};
 use std::io;
 
-pub(crate) fn orders(rt: &impl Print, run: &mut Sheet) -> io::Result<()> {
+pub(crate) fn orders(rt: &impl Print, run: &mut Run) -> io::Result<()> {
     // R2.4, R6.5, refusal 21: the same key in another form.
     scene(
         rt,
@@ -110,7 +109,7 @@ pub(crate) fn orders(rt: &impl Print, run: &mut Sheet) -> io::Result<()> {
     )
 }
 
-pub(crate) fn full_queues(rt: &impl Print, run: &mut Sheet) -> io::Result<()> {
+pub(crate) fn full_queues(rt: &impl Print, run: &mut Run) -> io::Result<()> {
     // R6.7, R6.8, R6.9, R5.3, refusal 28: nodes 22 and 23 ask to join, and 64 messages wait: a join
     // of node 24, a leave of node 0 and the delivery of the request of 22 are refused. Then node 1
     // leaves, the last that had joined; 64 wait again, and node 0, now alone, leaves too.
@@ -159,7 +158,7 @@ pub(crate) fn full_queues(rt: &impl Print, run: &mut Sheet) -> io::Result<()> {
     )
 }
 
-pub(crate) fn deliveries_and_questions(rt: &impl Print, run: &mut Sheet) -> io::Result<()> {
+pub(crate) fn deliveries_and_questions(rt: &impl Print, run: &mut Run) -> io::Result<()> {
     // R6.9, refusal 29: while none waits, and behind the last one.
     scene(
         rt,

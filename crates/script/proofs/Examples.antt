@@ -4,7 +4,8 @@ use Prim.Native.Nat.{ℕ, zero, suc}
 use mathlib.Core.Path.{◌≡◌, refl}
 use mathlib.Core.List.{List, [], ◌∷◌}
 use Rattle.refusal.specs.Code.{plain}
-use Rattle.serial.specs.declared.Serial.TheVariants.{Value, BadDigit, TooLarge}
+use Rattle.std.specs.Prelude.{Ok, Err}
+use Rattle.serial.specs.declared.SerialError.TheVariants.{BadDigit, TooLarge}
 use Rattle.protocol.specs.declared.Order.TheVariants.{Create, Join, Leave}
 use Rattle.protocol.specs.declared.Call.TheVariants.{Order, Deliver}
 use Rattle.script.specs.declared.Record.TheVariants.{Call, Declare, Owner, Drain}
@@ -39,8 +40,8 @@ readings (suc n) script at = read_at script at ∷ onward (read_at script at) (r
 
 paper-script :
     readings 20 paper_script 0
-    ≡ next (Declare (Value 1_000)) 6
-    ∷ next (Declare (Value 2_000)) 12
+    ≡ next (Declare (Ok 1_000)) 6
+    ∷ next (Declare (Ok 2_000)) 12
     ∷ next (Call (Order (Create 0))) 15
     ∷ next (Call (Order (Join 1 0 0))) 20
     ∷ next (Call (Deliver 0)) 23
@@ -49,7 +50,7 @@ paper-script :
     ∷ next (Call (Deliver 1)) 32
     ∷ next (Call (Deliver 0)) 35
     ∷ next (Call (Deliver 0)) 38
-    ∷ next (Owner 0 (Value 999)) 45
+    ∷ next (Owner 0 (Ok 999)) 45
     ∷ next (Call (Deliver 0)) 48
     ∷ end
     ∷ []
@@ -58,15 +59,15 @@ paper-script = refl
 
 -- ---- R9.4: bytes of a serial in the one form and in the other, and refusals 3 and 4, after which
 -- the cursor goes on
-packed : read_at (0x42 ∷ 0x43 ∷ 0x00 ∷ 0x00 ∷ 0x12 ∷ 0x34 ∷ []) 0 ≡ next (Declare (Value 1_234)) 6
+packed : read_at (0x42 ∷ 0x43 ∷ 0x00 ∷ 0x00 ∷ 0x12 ∷ 0x34 ∷ []) 0 ≡ next (Declare (Ok 1_234)) 6
 unfolding read_at
 packed = refl
 
-binary_too_large : read_at (0x42 ∷ 0x4e ∷ 0x00 ∷ 0x00 ∷ 0x12 ∷ 0x34 ∷ []) 0 ≡ next (Declare TooLarge) 6
+binary_too_large : read_at (0x42 ∷ 0x4e ∷ 0x00 ∷ 0x00 ∷ 0x12 ∷ 0x34 ∷ []) 0 ≡ next (Declare (Err TooLarge)) 6
 unfolding read_at
 binary_too_large = refl
 
-bad_digit : read_at (0x42 ∷ 0x43 ∷ 0x00 ∷ 0x00 ∷ 0x00 ∷ 0x0a ∷ []) 0 ≡ next (Declare BadDigit) 6
+bad_digit : read_at (0x42 ∷ 0x43 ∷ 0x00 ∷ 0x00 ∷ 0x00 ∷ 0x0a ∷ []) 0 ≡ next (Declare (Err BadDigit)) 6
 unfolding read_at
 bad_digit = refl
 

@@ -1,50 +1,29 @@
--- Laws of reading: what is read at a cursor, by what stands there; and where a reading leaves the
--- cursor: past a mark and at least one byte, within the script. Assumes nothing.
-use Prim.Native.Nat.{ℕ, ◌+◌, ◌-◌, ◌≤◌, ◌<◌}
-use mathlib.Core.Path.{◌≡◌, refl, ◌∙◌, subst}
+-- Laws of reading: past the end nothing is read; and where a reading leaves the cursor: past a mark
+-- and at least one byte, within the script. Assumes nothing.
+use Prim.Native.Nat.{ℕ, ◌+◌, ◌≤◌, ◌<◌}
+use mathlib.Core.Path.{◌≡◌, refl, subst}
 use mathlib.Core.Logic.{◌⊎◌, inl, inr}
 use mathlib.Core.List.{List}
 use native.Mathlib.Omega.{arith}
 use native.Mathlib.Nat.{not-le_of_lt}
 use lib.ListN.{length, get_or, drop, length-drop}
 use lib.Dec.{ltb, leb}
-use borrow.Author.Tests.{ltb-false, leb-true, lt-ltb, le-ltb, lt-leb, le-leb}
+use borrow.Author.Tests.{ltb-false, leb-true, le-leb}
 use Rattle.predicates.proofs.Laws.{by_test}
+use Rattle.std.specs.Prelude.{Option, None, Some}
 use Rattle.refusal.specs.Code.{Reason, plain}
 use Rattle.script.specs.declared.Record.{Record}
 use Rattle.script.specs.declared.Mark.{Mark}
 use Rattle.script.specs.declared.Mark.TheVariants.{PackedDeclare, BinaryDeclare, Create, Join, Leave, Deliver, PackedOwner, BinaryOwner, Drain}
-use Rattle.script.specs.declared.Lookup.{Lookup}
-use Rattle.script.specs.declared.Lookup.TheVariants.{Known, Unknown}
-use Rattle.script.specs.Script.{Read, end, stop, next, mark_of, size_of, record_of, read_fields, read_at}
+use Rattle.script.specs.Script.{Read, end, stop, next, mark_of, size_of, read_fields, read_at}
 
-abbrev pub mark_at : List ℕ → ℕ → Lookup
+abbrev pub mark_at : List ℕ → ℕ → Option Mark
 mark_at script at = mark_of (get_or script at 0) (get_or script (at + 1) 0)
 
--- ---- by what stands at the cursor
-module _ (script : List ℕ) (at : ℕ) where
-  pub at-end : length script ≤ at → read_at script at ≡ end
-  unfolding read_at
-  at-end past = rw (le-leb (length script) at past)
-
-  pub half-a-mark : at < length script → length script < at + 2 → read_at script at ≡ stop (plain 2)
-  unfolding read_at
-  half-a-mark within short = rw (lt-leb (length script) at within, lt-ltb (length script) (at + 2) short)
-
-  module _ (whole : at + 2 ≤ length script) where
-    after-mark : read_at script at ≡ read_fields (mark_at script at) (drop (at + 2) script) (at + 2)
-    unfolding read_at
-    after-mark = rw (lt-leb (length script) at (omega arith), le-ltb (length script) (at + 2) whole)
-
-    pub unknown-mark : mark_at script at ≡ Unknown → read_at script at ≡ stop (plain 1)
-    unknown-mark found = after-mark ∙ rw found
-
-    pub cut_short : (mark : Mark) → mark_at script at ≡ Known mark → length script < at + 2 + size_of mark → read_at script at ≡ stop (plain 2)
-    cut_short mark found short = after-mark ∙ rw (found, length-drop, lt-ltb (length script - (at + 2)) (size_of mark) (omega arith))
-
-    pub whole-record : (mark : Mark) → mark_at script at ≡ Known mark → at + 2 + size_of mark ≤ length script
-        → read_at script at ≡ next (record_of mark (drop (at + 2) script)) (at + 2 + size_of mark)
-    whole-record mark found fits = after-mark ∙ rw (found, length-drop, le-ltb (length script - (at + 2)) (size_of mark) (omega arith))
+-- ---- past the end nothing stands at the cursor
+pub at-end : (script : List ℕ) (at : ℕ) → length script ≤ at → read_at script at ≡ end
+unfolding read_at
+at-end script at past = rw (le-leb (length script) at past)
 
 -- ---- where a reading leaves the cursor: nothing is left at the end; it stops by 1 or 2; a record
 -- is its mark and at least one byte more, within the script
@@ -65,9 +44,9 @@ some-field BinaryOwner = omega arith
 some-field Drain = omega arith
 
 module _ (script : List ℕ) (at : ℕ) where
-  fields-leave : (lookup : Lookup) → at + 2 ≤ length script → Leaves script at (read_fields lookup (drop (at + 2) script) (at + 2))
-  fields-leave Unknown whole = inl refl
-  fields-leave (Known mark) whole =
+  fields-leave : (lookup : Option Mark) → at + 2 ≤ length script → Leaves script at (read_fields lookup (drop (at + 2) script) (at + 2))
+  fields-leave None whole = inl refl
+  fields-leave (Some mark) whole =
       by_test (Leaves script at) (ltb (length (drop (at + 2) script)) (size_of mark)) _ _ (λ short. inr refl)
       (λ fits. (omega (arith, some-field mark), omega (arith, length-drop (at + 2) script, ltb-false)))
 

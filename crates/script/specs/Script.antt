@@ -1,21 +1,19 @@
 -- A script, record by record: a mark of two bytes, then the fields (R9.2, R9.3, R9.4). What is read
 -- at a cursor is a record with the cursor after it, the end of the script, or a refusal that stops
 -- the reading. Definitions only.
-use Rattle.std.specs.Prelude.{ℕ, ◌+◌, Bool, false, ◌&&◌, cond, List, [], ◌∷◌, reverse, length, get_or, drop, eqb, leb, ltb}
+use Rattle.std.specs.Prelude.{ℕ, ◌+◌, Bool, false, ◌&&◌, cond, List, [], ◌∷◌, reverse, length, get_or, drop, eqb, leb, ltb, Option, None, Some, Result, Ok, Err}
 use Prim.Native.Char.{code as byte}
 use Prim.Native.String.{String, [] as nothing, ◌∷◌ as ◌then◌}
+use Rattle.refusal.specs.declared.Refusal.{Refusal}
 use Rattle.refusal.specs.Code.{Reason, plain, reason}
 use Rattle.serial.specs.Serial.{positional, packed_of, binary_of}
 use Rattle.protocol.specs.declared.Order.TheVariants.{Create as CreateOrder, Join as JoinOrder, Leave as LeaveOrder}
 use Rattle.protocol.specs.declared.Call.TheVariants.{Order, Deliver as DeliverCall}
 use Rattle.script.specs.declared.Mark.{Mark}
 use Rattle.script.specs.declared.Mark.TheVariants.{PackedDeclare, BinaryDeclare, Create, Join, Leave, Deliver, PackedOwner, BinaryOwner, Drain}
-use Rattle.script.specs.declared.Lookup.{Lookup}
-use Rattle.script.specs.declared.Lookup.TheVariants.{Known, Unknown}
 use Rattle.script.specs.declared.Record.{Record}
 use Rattle.script.specs.declared.Record.TheVariants.{Call as CallRecord, Declare as DeclareRecord, Owner as OwnerRecord, Drain as DrainRecord}
-use Rattle.script.specs.declared.Reading.{Reading}
-use Rattle.script.specs.declared.Reading.TheVariants.{End, Stopped, Next}
+use Rattle.script.specs.declared.Next.{Next}
 
 -- R9.5: what is read at a cursor: the end, a refusal that stops the reading, or a record and the
 -- cursor after it
@@ -32,18 +30,18 @@ spells (c then nothing) a b = false
 spells (c then (d then rest)) a b = eqb a (byte c) && eqb b (byte d)
 
 -- R9.2: the marks
-abbrev pub mark_of : ℕ → ℕ → Lookup
+abbrev pub mark_of : ℕ → ℕ → Option Mark
 mark_of a b =
-    cond (spells "BC" a b) (Known PackedDeclare)
-    (cond (spells "BN" a b) (Known BinaryDeclare)
-    (cond (spells "CR" a b) (Known Create)
-    (cond (spells "JN" a b) (Known Join)
-    (cond (spells "LV" a b) (Known Leave)
-    (cond (spells "DL" a b) (Known Deliver)
-    (cond (spells "OC" a b) (Known PackedOwner)
-    (cond (spells "ON" a b) (Known BinaryOwner)
-    (cond (spells "RD" a b) (Known Drain)
-    Unknown))))))))
+    cond (spells "BC" a b) (Some PackedDeclare)
+    (cond (spells "BN" a b) (Some BinaryDeclare)
+    (cond (spells "CR" a b) (Some Create)
+    (cond (spells "JN" a b) (Some Join)
+    (cond (spells "LV" a b) (Some Leave)
+    (cond (spells "DL" a b) (Some Deliver)
+    (cond (spells "OC" a b) (Some PackedOwner)
+    (cond (spells "ON" a b) (Some BinaryOwner)
+    (cond (spells "RD" a b) (Some Drain)
+    None))))))))
 
 -- R9.3, R9.4: a node and a place have one byte, a serial has four, a budget two
 abbrev pub size_of : Mark → ℕ
@@ -77,9 +75,9 @@ record_of Drain fields = DrainRecord (positional 256 (reverse (get_or fields 0 0
 
 -- ---- a record at a cursor
 -- refusal 1 of an unknown mark, refusal 2 of a record cut short; `at` is the cursor after the mark
-abbrev pub read_fields : Lookup → List ℕ → ℕ → Read
-read_fields Unknown fields at = stop (plain 1)
-read_fields (Known mark) fields at = cond (ltb (length fields) (size_of mark)) (stop (plain 2)) (next (record_of mark fields) (at + size_of mark))
+abbrev pub read_fields : Option Mark → List ℕ → ℕ → Read
+read_fields None fields at = stop (plain 1)
+read_fields (Some mark) fields at = cond (ltb (length fields) (size_of mark)) (stop (plain 2)) (next (record_of mark fields) (at + size_of mark))
 
 -- refusal 2 of one byte where a mark should be
 unfoldable pub read_at : List ℕ → ℕ → Read
@@ -89,7 +87,7 @@ read_at script at =
     (read_fields (mark_of (get_or script at 0) (get_or script (at + 1) 0)) (drop (at + 2) script) (at + 2)))
 
 -- ---- R11.3: what the code's reading says
-abbrev pub reading : Reading → Read
-reading End = end
-reading (Stopped r) = stop (reason r)
-reading (Next r after) = next r after
+abbrev pub reading : Result (Option Next) Refusal → Read
+reading (Ok None) = end
+reading (Ok (Some r)) = next r.record r.after
+reading (Err r) = stop (reason r)

@@ -1,27 +1,23 @@
--- No rules stand here: it is what a search of a network's arrays tells, for every network: of the
--- nodes and messages before the counts, as many as the arrays have. Definitions only.
-use Rattle.std.specs.Prelude.{ℕ, Bool, false, not, cond, get_or, take, leb, eqb}
-use Rattle.predicates.specs.Tests.{every_below, any}
-use Rattle.node.specs.Shape.{capacity}
+-- No rules stand here: it is what a search of a network's nodes and messages tells, for every
+-- network. Definitions only.
+use Rattle.std.specs.Prelude.{ℕ, Bool, false, not, eqb}
+use Rattle.predicates.specs.Tests.{any}
 use Rattle.parts.specs.Tests.{is_out}
 use Rattle.protocol.specs.declared.Order.{Order}
 use Rattle.protocol.specs.declared.Order.TheVariants.{Declare, Create, Join, Leave}
-use Rattle.protocol.specs.State.{queue_limit, is_notice_to}
+use Rattle.protocol.specs.State.{notice_waits as notice_waits_in_lists}
 use Rattle.network.specs.declared.Network.{Network}
-use Rattle.network.specs.Arrays.{vacant_node}
+use Rattle.network.specs.Arrays.{live}
 use Rattle.searches.specs.declared.Found.{Found}
 
-abbrev pub least : ℕ → ℕ → ℕ
-least n limit = cond (leb n limit) n limit
-
 abbrev pub key_is_taken : Network → ℕ → Bool
-key_is_taken n key = not (every_below (least n.count capacity) (λ u. not (eqb (get_or n.nodes u vacant_node).key key)))
+key_is_taken n key = any (λ node. eqb node.key key) (live n).nodes
 
 abbrev pub some_stands : Network → Bool
-some_stands n = not (every_below (least n.count capacity) (λ u. is_out (get_or n.nodes u vacant_node).status))
+some_stands n = any (λ node. not (is_out node.status)) (live n).nodes
 
 abbrev pub notice_waits : Network → ℕ → Bool
-notice_waits n u = any (is_notice_to u) (take (least n.waiting queue_limit) n.messages)
+notice_waits n u = notice_waits_in_lists (live n) u
 
 abbrev pub nothing_found : Found
 nothing_found = record { taken = false; standing = false; notice = false }

@@ -3,15 +3,28 @@
 // with it, for every input.
 #![tactic(auto)]
 
-ghost use Rattle.std.specs.Prelude.{◌≡◌, ◌+◌, ◌*◌, ◌/◌, ◌%◌, ◌<◌, [], ◌∷◌, reverse};
-ghost use Rattle.serial.specs.Serial.{in_range, handed_of, packed_of, binary_of, positional, digits, all_decimal};
+ghost use Rattle.std.specs.Prelude.{◌≡◌, ◌+◌, ◌*◌, ◌/◌, ◌%◌, ◌<◌, ◌&&◌, leb};
+ghost use Rattle.std.specs.List.{list_all};
+ghost use Rattle.serial.specs.Serial.{in_range, refusal_of, handed_of, packed_of, binary_of, positional, digits, all_decimal};
 
-// A serial that was read, or why there is none: refusal 3 or 4, and no other.
-#[derive(Clone, Copy)]
-pub enum Serial {
-    Value(u32),
+use refusal::Refusal;
+
+// Why there is no serial: refusal 3 or 4, and no other.
+#[derive(Clone, Copy, Debug, PartialEq, Eq)]
+pub enum SerialError {
     BadDigit,
     TooLarge,
+}
+
+impl From<SerialError> for Refusal {
+    ghost from_gives = { λ error refusal. refusal ≡ refusal_of error };
+
+    fn from(error: SerialError) -> Refusal {
+        match error {
+            SerialError::BadDigit => Refusal::BadDigit,
+            SerialError::TooLarge => Refusal::SerialTooLarge,
+        }
+    }
 }
 
 pub fn in_range(value: u32) -> bool
@@ -21,67 +34,52 @@ pub fn in_range(value: u32) -> bool
 }
 
 // A serial handed in as a number.
-pub fn handed(value: u32) -> Serial
+pub fn handed(value: u32) -> Result<u32, SerialError>
     ensures { result ≡ handed_of value }
 {
     if in_range(value) {
-        Serial::Value(value)
+        Ok(value)
     } else {
-        Serial::TooLarge
+        Err(SerialError::TooLarge)
     }
 }
 
-fn wide(byte: u8) -> u32
-    ensures { (result ≡ byte) × (result < 256) }
-{
-    byte as u32
-}
-
-fn binary_value(b0: u8, b1: u8, b2: u8, b3: u8) -> u32
-    ensures { result ≡ positional 256 (reverse (b0 ∷ b1 ∷ b2 ∷ b3 ∷ [])) }
-{
-    wide(b0) + 256 * wide(b1) + 65_536 * wide(b2) + 16_777_216 * wide(b3)
-}
-
 // Binary, low byte first.
-pub fn binary(b0: u8, b1: u8, b2: u8, b3: u8) -> Serial
-    ensures { result ≡ binary_of (b0 ∷ b1 ∷ b2 ∷ b3 ∷ []) }
+#[tactic(auto, using(crate::proofs::Bytes::low_first))]
+pub fn binary(bytes: [u8; 4]) -> Result<u32, SerialError>
+    ensures { result ≡ binary_of bytes }
 {
-    handed(binary_value(b0, b1, b2, b3))
+    handed(u32::from_le_bytes(bytes))
 }
 
-fn is_packed(byte: u8) -> bool
-    ensures { result ≡ all_decimal (digits (byte ∷ [])) }
+fn all_packed(bytes: [u8; 4]) -> bool
+    ensures { result ≡ list_all (λ byte. leb (byte / 16) 9 && leb (byte % 16) 9) bytes }
 {
-    (byte / 16 <= 9) & ((byte % 16 <= 9) & true)
-}
-
-fn all_packed(b0: u8, b1: u8, b2: u8, b3: u8) -> bool
-    ensures { result ≡ all_decimal (digits (b0 ∷ b1 ∷ b2 ∷ b3 ∷ [])) }
-{
-    is_packed(b0) & is_packed(b1) & is_packed(b2) & is_packed(b3)
+    bytes.iter().all(|byte| (byte / 16 <= 9) & (byte % 16 <= 9))
 }
 
 // A byte's two digits, side by side.
 fn pair(byte: u8) -> u32
     ensures { (result ≡ (byte / 16) * 10 + byte % 16) × (result < 166) }
 {
-    wide(byte / 16) * 10 + wide(byte % 16)
+    u32::from(byte / 16) * 10 + u32::from(byte % 16)
 }
 
-fn packed_value(b0: u8, b1: u8, b2: u8, b3: u8) -> u32
-    ensures { result ≡ positional 10 (digits (b0 ∷ b1 ∷ b2 ∷ b3 ∷ [])) }
+fn packed_value(bytes: [u8; 4]) -> u32
+    ensures { result ≡ positional 10 (digits bytes) }
 {
-    pair(b0) * 1_000_000 + pair(b1) * 10_000 + pair(b2) * 100 + pair(b3)
+    let [a, b, c, d] = bytes;
+    pair(a) * 1_000_000 + pair(b) * 10_000 + pair(c) * 100 + pair(d)
 }
 
 // Packed BCD, high digits first.
-pub fn packed(b0: u8, b1: u8, b2: u8, b3: u8) -> Serial
-    ensures { result ≡ packed_of (b0 ∷ b1 ∷ b2 ∷ b3 ∷ []) }
+#[tactic(auto, using(crate::proofs::Bytes::each_packed))]
+pub fn packed(bytes: [u8; 4]) -> Result<u32, SerialError>
+    ensures { result ≡ packed_of bytes }
 {
-    if all_packed(b0, b1, b2, b3) {
-        Serial::Value(packed_value(b0, b1, b2, b3))
+    if all_packed(bytes) {
+        Ok(packed_value(bytes))
     } else {
-        Serial::BadDigit
+        Err(SerialError::BadDigit)
     }
 }

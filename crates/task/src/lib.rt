@@ -1,77 +1,63 @@
-// A record of a script as a task: what a network is asked, or what is only told. A serial that is
-// refused at its turn has become its refusal where nothing comes before it, and what cannot be read
-// is told too, so that who executes a task has four cases.
+// A record of a script as a task: what a network is asked, or the refusal that is only told. A
+// serial that is refused at its turn has become its refusal where nothing comes before it, and what
+// cannot be read is told too.
 #![tactic(auto)]
 
 ghost use Rattle.std.specs.Prelude.{◌≡◌, length};
 ghost use Rattle.script.specs.Script.{read_at};
-ghost use Rattle.task.specs.Tasks.{declaring, task_of, task_read, cursor_after, Asks};
+ghost use Rattle.task.specs.Tasks.{task_of, Asks};
 
 use protocol::{Call, Order};
 use refusal::Refusal;
-use script::{Reading, Record};
-use serial::Serial;
+use script::Record;
+use serial::SerialError;
 
-// What a network is asked: a refusal to be told, a call, the owner of a serial, a drain.
-#[derive(Clone, Copy)]
+// What a network is asked: a call, the owner of a serial, a drain.
+#[derive(Clone, Copy, Debug, PartialEq, Eq)]
 pub enum Task {
-    Refuse(Refusal),
     Call(Call),
-    Owner { start: u8, serial: Serial },
+    Owner {
+        start: u8,
+        serial: Result<u32, SerialError>,
+    },
     Drain(u16),
 }
 
-// What is read at a cursor: the task, and the cursor after it.
-#[derive(Clone, Copy)]
+// What is read at a cursor: the task, or the refusal to be told; and the cursor after it.
+#[derive(Clone, Copy, Debug, PartialEq, Eq)]
 pub struct Asked {
-    pub task: Task,
+    pub task: Result<Task, Refusal>,
     pub after: usize,
 }
 
-fn declare(serial: Serial) -> Task
-    ensures { result ≡ declaring serial }
-{
-    match serial {
-        Serial::Value(key) => Task::Call(Call::Order(Order::Declare(key))),
-        Serial::BadDigit => Task::Refuse(Refusal::BadDigit),
-        Serial::TooLarge => Task::Refuse(Refusal::SerialTooLarge),
-    }
-}
-
-fn task_of(asked: Record) -> Task
+fn task_of(asked: Record) -> Result<Task, Refusal>
     ensures { result ≡ task_of asked }
 {
     match asked {
-        Record::Call(call) => Task::Call(call),
-        Record::Declare(serial) => declare(serial),
-        Record::Owner { start, serial } => Task::Owner { start, serial },
-        Record::Drain(budget) => Task::Drain(budget),
+        Record::Call(call) => Ok(Task::Call(call)),
+        Record::Declare(serial) => Ok(Task::Call(Call::Order(Order::Declare(serial?)))),
+        Record::Owner { start, serial } => Ok(Task::Owner { start, serial }),
+        Record::Drain(budget) => Ok(Task::Drain(budget)),
     }
 }
 
-fn asked_by(read: Reading, size: usize) -> Asked
-    ensures { (result.task ≡ task_read read) × (result.after ≡ cursor_after size read) }
-{
-    match read {
-        Reading::End => Asked {
-            task: Task::Refuse(Refusal::CutShort),
-            after: size,
-        },
-        Reading::Stopped(refusal) => Asked {
-            task: Task::Refuse(refusal),
-            after: size,
-        },
-        Reading::Next { record, after } => Asked {
-            task: task_of(record),
-            after,
-        },
-    }
-}
-
-// What is asked at a cursor of a script.
+// What is asked at a cursor of a script; at the end, where nobody asks, it is as if a record were
+// cut short.
 pub fn ask(script: &[u8], at: usize) -> Asked
     ensures { Asks (length script.now) (read_at script.now at) result }
 {
-    let read = script::read(script, at);
-    asked_by(read, script.len())
+    match script::read(script, at) {
+        Ok(Some(next)) => Asked {
+            task: task_of(next.record),
+            after: next.after,
+        },
+        Ok(None) => Asked {
+            task: Err(Refusal::CutShort),
+            after: script.len(),
+        },
+        Err(refusal) => Asked {
+            task: Err(refusal),
+            after: script.len(),
+        },
+    }
 }

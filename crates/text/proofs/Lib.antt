@@ -1,4 +1,1 @@
-pub mod Laws
-pub mod Copying
 pub mod DecimalLaws
-pub mod Spelling

@@ -1,87 +1,77 @@
-// Text in a buffer: a piece of bytes, or a number in decimal, put from a place on. Where a piece
-// does not fit nothing is written, so no function asks anything of its caller.
+// Text in fixed memory: a page, to which pieces of bytes and numbers in decimal are appended. A
+// piece that finds no room is left out whole, so no function asks anything of its caller.
 #![tactic(auto)]
 
-ghost use Rattle.std.specs.Prelude.{◌≡◌, ◌+◌, ltb};
-ghost use Rattle.io.specs.Digits.{IsDigitCount};
+ghost use Rattle.std.specs.Prelude.{◌≡◌, ◌+◌, ◌≤◌, leb, length, []};
 ghost use Rattle.text.specs.Text.{decimal};
-ghost use Rattle.text.specs.Buffers.{pasted, place_after};
+ghost use Rattle.text.specs.Pages.{appended};
 
-// Whether so many bytes find no room in a buffer of this size, from place `at` on.
-pub fn lacks_room(size: usize, at: usize, bytes: usize) -> bool
-    ensures { result ≡ ltb size (at + bytes) }
-{
-    if size < bytes {
-        true
-    } else if size - bytes < at {
-        true
-    } else {
-        false
-    }
+use std::marker::Model;
+
+// At most N bytes of text. Clauses see the bytes that were appended.
+#[derive(Drop)]
+pub struct Page<const N: usize> {
+    bytes: [u8; N],
+    len: usize,
 }
 
-// Puts a piece into the buffer from place `at` on, and answers the place after it.
-pub fn append(buffer: &mut [u8], at: usize, piece: &[u8]) -> usize
-    ensures value { result ≡ place_after buffer.old at piece.now }
-    ensures buffer_after { buffer.new ≡ pasted buffer.old at piece.now }
-{
-    if buffer.len() < piece.len() {
-        return at;
-    }
-    if buffer.len() - piece.len() < at {
-        return at;
-    }
-    let mut i: usize = 0;
-    while i < piece.len() {
-        buffer[at + i] = piece[i];
-        i += 1;
-    }
-    at + piece.len()
+impl<const N: usize> Model for Page<N> {
+    ghost use Rattle.std.specs.Prelude.{List, ℕ, take, ◌≤◌};
+
+    ghost Value = { List ℕ };
+
+    ghost view = { λ page. take page.len page.bytes };
+
+    ghost invariant = { λ page. page.len ≤ N };
 }
 
-// How many digits a number has in decimal.
-fn digits_of(n: u32) -> usize
-    ensures { IsDigitCount 10 1 n result }
-{
-    if n < 10_000 {
-        if n < 100 {
-            if n < 10 { 1 } else { 2 }
-        } else if n < 1_000 {
-            3
-        } else {
-            4
+impl<const N: usize> Page<N> {
+    #[inline(always)]
+    pub fn new() -> Self
+        ensures { result ≡ [] }
+    {
+        Page {
+            bytes: [0; N],
+            len: 0,
         }
-    } else if n < 1_000_000 {
-        if n < 100_000 { 5 } else { 6 }
-    } else if n < 100_000_000 {
-        if n < 10_000_000 { 7 } else { 8 }
-    } else if n < 1_000_000_000 {
-        9
-    } else {
-        10
     }
-}
 
-// Puts a number in decimal, the last digit first; what is left for the first is below ten, and
-// needs no division.
-pub fn append_decimal(buffer: &mut [u8], at: usize, n: u32) -> usize
-    ensures value { result ≡ place_after buffer.old at (decimal n) }
-    ensures buffer_after { buffer.new ≡ pasted buffer.old at (decimal n) }
-{
-    let count = digits_of(n);
-    if buffer.len() < count {
-        return at;
+    pub fn as_bytes(&self) -> &[u8]
+        ensures value { result.now ≡ self.now }
+        ensures fits { length result.now ≤ N }
+    {
+        &self.bytes[..self.len]
     }
-    if buffer.len() - count < at {
-        return at;
+
+    // Whether so many bytes more find room.
+    pub fn has_room(&self, bytes: usize) -> bool
+        ensures { result ≡ leb (length self.now + bytes) N }
+    {
+        bytes <= N - self.len
     }
-    let mut i = count - 1;
-    let mut rest = n;
-    while 0 < i {
-        buffer[at + i] = 48 + (rest % 10) as u8;
-        rest /= 10;
-        i -= 1;
+
+    pub fn clear(&mut self)
+        ensures { self.new ≡ [] }
+    {
+        self.len = 0;
     }
-    buffer[at] = 48 + rest as u8;
-    at + count
+
+    pub fn append(&mut self, piece: &[u8])
+        ensures { self.new ≡ appended N self.old piece.now }
+    {
+        if self.has_room(piece.len()) {
+            let end = self.len + piece.len();
+            let bytes = &mut self.bytes[..];
+            bytes[self.len..end].copy_from_slice(piece);
+            self.len = end;
+        }
+    }
+
+    #[tactic(auto, using(crate::proofs::DecimalLaws::printed_decimal, crate::proofs::DecimalLaws::ten_digits))]
+    pub fn append_decimal(&mut self, n: u32)
+        ensures text_after { self.new ≡ appended N self.old (decimal n) }
+        ensures short { length (decimal n) ≤ 10 }
+    {
+        self.append(itoa::Buffer::new().format(n).as_bytes());
+    }
 }

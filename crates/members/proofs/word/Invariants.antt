@@ -1,14 +1,9 @@
--- `members::word` meets its contract: after i turns the word is that of the first i nodes. The
--- measure is what is left of the nodes declared. Assumes nothing.
-use Prim.Native.Nat.{◌≤◌, ◌-◌}
+-- `members::word` meets its contract: with each turn the word is that of the nodes passed. Assumes
+-- nothing.
 use mathlib.Core.Path.{◌≡◌}
-use lib.ListN.{take}
 use Rattle.predicates.specs.Tests.{word_below}
-use Rattle.members.proofs.TurnLaws.{inserted_by}
+use Rattle.members.specs.Members.{member_in}
 use Rattle.members.proofs.word.Given as goal
 
-abbrev pub invariant-loop-i : goal.invariant-loop-i
-invariant-loop-i l = (l.i ≤ l.count) × (l.word ≡ word_below l.i (inserted_by l.nodes (take l.waiting l.messages)))
-
-abbrev pub decreases-loop-i : goal.decreases-loop-i
-decreases-loop-i l = l.count - l.i
+abbrev pub invariant-loop-number : goal.invariant-loop-number
+invariant-loop-number l = l.word ≡ word_below l.number (member_in l.network)

@@ -1,13 +1,13 @@
--- `printout::last_line` meets its contract: its two items are put one after the other where there
--- is room. Assumes nothing.
-use Rattle.printout.proofs.Laws.{roomy, printed-last}
+-- `printout::last_line` meets its contract: what it says finds room, and the line end after it. Assumes nothing.
+use mathlib.Core.Path.{sym, ◌∙◌}
+use native.Mathlib.Omega.{arith}
+use borrow.Author.Tests.{leb-true}
+use Rattle.printout.specs.Lines.{last_line}
+use Rattle.printout.proofs.Laws.{line_ended}
 use Rattle.printout.proofs.last_line.Goals as goal
 
-pub returns : goal.returns
-returns c =
-    printed-last
-    (roomy c.lacks_room.ensures c.if-lacks_room.false)
-    c.ranges.waiting.fits
-    c.ranges.posted.fits
-    c.put_item-at.ensures
-    c.put_last_item.ensures
+pub returns-then-has_room-clause-text_after : goal.returns-then-has_room-clause-text_after
+unfolding last_line
+returns-then-has_room-clause-text_after g c =
+    let room = leb-true _ _ (sym c.has_room.ensures ∙ c.if-has_room.true) in
+    c.append.ensures ∙ rw c.put_pair.ensures.text_after (line_ended _ _ _ room (omega (arith, c.put_pair.ensures.short)))

@@ -1,20 +1,21 @@
--- `printout::reply_line` meets its contract: the ordinal is put and what follows it, where there is
--- room for the longest. Assumes nothing.
-use Rattle.text.proofs.Laws.{put}
-use Rattle.printout.proofs.Laws.{roomy, after-ordinal, printed-line}
+-- `printout::reply_line` meets its contract: what it says finds room, and the line end after it. Assumes nothing.
+use mathlib.Core.Path.{◌≡◌, sym, ◌∙◌}
+use mathlib.Core.List.{◌++◌}
+use Prim.Native.Nat.{◌≤◌}
+use native.Mathlib.Omega.{arith}
+use lib.ListN.{length}
+use borrow.Author.Tests.{leb-true}
+use Rattle.std.proofs.lemmas.Grind.{common_steps}
+use Rattle.text.specs.Text.{ascii, decimal}
+use Rattle.printout.specs.Lines.{reply_words, line_of}
+use Rattle.printout.proofs.Laws.{line_ended}
 use Rattle.printout.proofs.reply_line.Goals as goal
 
-pub put_reply-requires : goal.put_reply-requires
-put_reply-requires c =
-    after-ordinal
-    (roomy c.lacks_room.ensures c.if-lacks_room.false)
-    c.ranges.ordinal.fits
-    (put (c.append_decimal-at.ensures.value, c.append_decimal-at.ensures.buffer_after))
-
-pub returns : goal.returns
-returns c =
-    printed-line
-    (roomy c.lacks_room.ensures c.if-lacks_room.false)
-    c.ranges.ordinal.fits
-    (put (c.append_decimal-at.ensures.value, c.append_decimal-at.ensures.buffer_after))
-    c.put_reply.ensures
+pub returns-then-has_room-clause-text_after : goal.returns-then-has_room-clause-text_after
+unfolding line_of
+returns-then-has_room-clause-text_after g c =
+    let said = decimal c.args.ordinal ++ ascii " " ++ reply_words c.args.reply in
+    let room = leb-true _ _ (sym c.has_room.ensures ∙ c.if-has_room.true) in
+    let text_after : c.put_reply.new.text ≡ c.args.text.now ++ said = grind (arith, common_steps) in
+    let short : length said ≤ 39 = grind (arith, common_steps) in
+    c.append-then-has_room.ensures ∙ rw text_after (line_ended _ _ said room short)

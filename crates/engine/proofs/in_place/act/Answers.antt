@@ -1,20 +1,24 @@
 -- `engine::in_place::act` meets its contract: the decision made and carried out where the network
 -- lies is what the rules make of the lists. Assumes nothing.
-use mathlib.Core.Path.{ap, ◌∙◌}
-use Rattle.network.specs.declared.Network.{Network}
-use Rattle.access.specs.Changes.{written, committed}
-use Rattle.ruling.specs.Rulings.{decision_on}
+use mathlib.Core.Path.{sym, ap, ◌∙◌}
+use Rattle.refusal.specs.Code.{reason}
+use Rattle.decision.specs.Decided.{decided}
 use Rattle.engine.specs.Outcomes.{reported}
 use Rattle.engine.specs.Computed.{outcome}
-use Rattle.engine.proofs.CallLaws.{decides}
+use Rattle.engine.proofs.CallLaws.{decides, nothing-written}
 use Rattle.engine.proofs.in_place.act.Goals as goal
 
-pub returns : goal.returns
-returns c =
+pub returns-in-Ok : goal.returns-in-Ok
+returns-in-Ok c =
     let n = c.args.network.now in
-    let told = c.sizes.ensures in
-    let before = c.decide-decision.ensures.1 ∙ told.same in
-    let after = c.commit.ensures ∙ (λ i. committed (before i) (written (c.change_in-change.ensures i))) in
-    (λ i. reported (after i) (c.report_in.ensures i))
-    ∙ ap (outcome n) (c.decide-decision.ensures.0 ∙ ap (λ (m : Network). decision_on m c.args.call) told.same)
-    ∙ decides n (record { nodes = told.nodes; messages = told.messages }) c.requires c.args.call
+    (λ i. reported (c.commit.ensures i) c.in-Ok.decision.report)
+    ∙ ap (outcome n) (sym (ap decided c.in-Ok.is) ∙ c.decide.ensures)
+    ∙ decides n (record { nodes = c.sizes.ensures.nodes; messages = c.sizes.ensures.messages }) c.requires c.args.call
+
+pub returns-in-Err : goal.returns-in-Err
+returns-in-Err c =
+    let n = c.args.network.now in
+    (λ i. record { network = n; posted = c.refused.ensures.1 i; said = c.refused.ensures.0 i })
+    ∙ nothing-written n (reason c.in-Err.refusal)
+    ∙ ap (outcome n) (sym (ap decided c.in-Err.is) ∙ c.decide.ensures)
+    ∙ decides n (record { nodes = c.sizes.ensures.nodes; messages = c.sizes.ensures.messages }) c.requires c.args.call

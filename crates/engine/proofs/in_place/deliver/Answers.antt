@@ -1,38 +1,23 @@
 -- `engine::in_place::deliver` meets its contract: where the queue is not full the first place is the
--- lowest one (`DrainLaws`), and else `lowest` is handed a copy of the network. Assumes nothing.
-use Prim.Native.Nat.{ℕ}
+-- lowest one, and else the one that is searched for (`DrainLaws`). Assumes nothing.
 use mathlib.Core.Path.{◌≡◌, sym, ap, ◌∙◌}
-use mathlib.Core.Option.{some}
+use Rattle.std.specs.Prelude.{Some}
 use Rattle.protocol.specs.declared.Call.TheVariants.{Deliver}
 use Rattle.protocol.specs.Drain.{lowest}
-use Rattle.network.specs.declared.Network.{Network}
 use Rattle.network.specs.Arrays.{live}
 use Rattle.network.proofs.Lengths.{Lengths}
-use Rattle.report.specs.declared.Report.{Report}
-use Rattle.ruling.specs.Places.{lowest_place}
-use Rattle.engine.specs.Outcomes.{reported, counted, apply_of}
-use Rattle.engine.specs.Computed.{place_of, next_delivery}
+use Rattle.engine.specs.Outcomes.{counted, apply_of}
+use Rattle.engine.specs.Computed.{place_of}
 use Rattle.engine.proofs.DrainLaws.{first-is-lowest, lowest-is}
 use Rattle.engine.proofs.in_place.deliver.Goals as goal
-
--- what is told of a delivery at the lowest place, on the same network
-delivered : (n s m : Network) (r : Report) (p : ℕ) → s ≡ n → lowest (live n) ≡ some p → reported m r ≡ counted (apply_of s (Deliver p))
-    → reported m r ≡ counted (next_delivery n)
-delivered n s m r p same at e =
-    e ∙ (λ i. counted (apply_of (same i) (Deliver p))) ∙ ap (λ o. counted (apply_of n (Deliver (place_of o)))) (sym at)
-
-pub returns-then-waiting-lt-QUEUE_LIMIT : goal.returns-then-waiting-lt-QUEUE_LIMIT
-returns-then-waiting-lt-QUEUE_LIMIT c =
-    let n = c.args.network.now in
-    let told = c.sizes.ensures in
-    let l : Lengths n = record { nodes = told.nodes; messages = told.messages } in
-    let few = rw told.same at c.if-waiting-lt-QUEUE_LIMIT.true in
-    delivered n _ _ c.act.result 0 told.same (first-is-lowest n l c.requires.0 c.requires.1 few) c.act.ensures
+use Rattle.engine.proofs.in_place.deliver.Goals.{then-network-lt-QUEUE_LIMIT, else-network-lt-QUEUE_LIMIT}
 
 pub returns : goal.returns
 returns c =
     let n = c.args.network.now in
-    let told = c.sizes.ensures in
-    let l : Lengths n = record { nodes = told.nodes; messages = told.messages } in
-    let place = c.lowest-place.ensures ∙ ap lowest_place told.same in
-    delivered n _ _ c.act-2.result _ told.same (lowest-is n l c.requires.0 c.requires.1 ∙ ap some (sym place)) c.act-2.ensures
+    let sizes : Lengths n = record { nodes = c.sizes.ensures.nodes; messages = c.sizes.ensures.messages } in
+    let at : lowest (live n) ≡ Some c.if-network-lt-QUEUE_LIMIT.place = elim c.if-network-lt-QUEUE_LIMIT.branch [
+      | then-network-lt-QUEUE_LIMIT w ↦ first-is-lowest n sizes c.requires.0 c.requires.1 w.if-network-lt-QUEUE_LIMIT.true ∙ ap Some (sym w.place-is)
+      | else-network-lt-QUEUE_LIMIT w ↦ lowest-is n sizes c.requires.0 c.requires.1 ∙ ap Some (sym w.lowest-place.ensures ∙ sym w.place-is)
+    ] in
+    c.act.ensures ∙ ap (λ o. counted (apply_of n (Deliver (place_of o)))) (sym at)

@@ -10,10 +10,10 @@ use Rattle.node.proofs.set_r.on_set_r.Goals as goal
 
 pub returns-then-new-sender : goal.returns-then-new-sender
 returns-then-new-sender c =
-    let next = c.capped_next-next.ensures ∙ ap capped_next c.number.ensures in
+    let next = c.capped_next-next.ensures ∙ ap capped_next c.right_number.ensures in
     let u = c.args in
     let g = sym c.grants_request.ensures ∙ c.if-not-grants_request.false in
     let e = eq-eqb _ _ c.if-new-sender.true in
     let room = capped-next _ ((granted _ _ _ _ g).room e) in
     simp (g, e)
-    (λ i. granting (relinked u.node u.new u.number) (set_l u.me (c.target.ensures i) u.sender ((next ∙ room) i)) (set_r_ack u.me u.sender (next i)))
+    (λ i. granting (relinked u.node u.new u.number) (set_l u.me (c.unwrap_or.ensures i) u.sender ((next ∙ room) i)) (set_r_ack u.me u.sender (next i)))

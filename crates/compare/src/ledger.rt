@@ -1,0 +1,187 @@
+// What came of all scripts: how often each mark had each answer, and whether any script differed.
+use arrayvec::ArrayVec;
+use model::answer::{Answer, Outcome, Refusal};
+use model::network::Network;
+use model::reading::Line;
+use model::script::Mark;
+use std::fmt;
+
+// What stands for a record: its mark, if it has one.
+#[derive(Clone, Copy, Default, Eq, Ord, PartialEq, PartialOrd)]
+pub(crate) enum Label {
+    Marked(Mark),
+    #[default]
+    Unmarked,
+}
+
+impl From<Option<Mark>> for Label {
+    fn from(mark: Option<Mark>) -> Self {
+        mark.map_or(Label::Unmarked, Label::Marked)
+    }
+}
+
+impl fmt::Display for Label {
+    fn fmt<W: fmt::Write>(&self, f: &mut fmt::Formatter<W>) -> fmt::Result {
+        match self {
+            Label::Marked(mark) => write!(f, "{mark}"),
+            Label::Unmarked => f.write_str("--"),
+        }
+    }
+}
+
+// The answer under which a record is counted. An owner that is found by a hop or more is counted
+// apart.
+#[derive(Clone, Copy, Default, Eq, Ord, PartialEq, PartialOrd)]
+pub(crate) enum Came {
+    Refused(Refusal),
+    Declared,
+    Owner,
+    #[default]
+    Ran,
+    Done(Outcome),
+    Hopped,
+}
+
+impl From<Result<Answer, Refusal>> for Came {
+    fn from(reply: Result<Answer, Refusal>) -> Self {
+        match reply {
+            Err(refusal) => Came::Refused(refusal),
+            Ok(Answer::Declared { .. }) => Came::Declared,
+            Ok(Answer::Owner { hops: 0, .. }) => Came::Owner,
+            Ok(Answer::Owner { .. }) => Came::Hopped,
+            Ok(Answer::Ran { .. }) => Came::Ran,
+            Ok(Answer::Done(outcome)) => Came::Done(outcome),
+        }
+    }
+}
+
+impl fmt::Display for Came {
+    fn fmt<W: fmt::Write>(&self, f: &mut fmt::Formatter<W>) -> fmt::Result {
+        match self {
+            Came::Refused(refusal) => write!(f, "{refusal}"),
+            Came::Declared => f.write_str("bench"),
+            Came::Owner => f.write_str("owner"),
+            Came::Ran => f.write_str("ran"),
+            Came::Done(outcome) => write!(f, "{outcome}"),
+            Came::Hopped => f.write_str("hopped"),
+        }
+    }
+}
+
+#[derive(Clone, Copy, Default)]
+struct Tally {
+    label: Label,
+    came: Came,
+    times: usize,
+}
+
+// Where a script differs first, counted from 1.
+#[derive(Clone, Copy)]
+pub(crate) struct Difference {
+    pub(crate) script: u32,
+    pub(crate) byte: usize,
+}
+
+// The tallies stand in the order of their labels, and of answers below each. There is room for every
+// answer below every label.
+#[derive(Drop)]
+pub(crate) struct Ledger {
+    tallies: ArrayVec<Tally, 350>,
+    with_full_queue: usize,
+    records: usize,
+    scripts: usize,
+    printed: usize,
+    passed_over: usize,
+    differing: usize,
+    first_difference: Option<Difference>,
+}
+
+impl Ledger {
+    pub(crate) fn new() -> Self {
+        Ledger {
+            tallies: ArrayVec::new(),
+            with_full_queue: 0,
+            records: 0,
+            scripts: 0,
+            printed: 0,
+            passed_over: 0,
+            differing: 0,
+            first_difference: None,
+        }
+    }
+
+    pub(crate) fn count(&mut self, label: Label, came: Came) {
+        let place = self
+            .tallies
+            .binary_search_by_key(&(label, came), |tally| (tally.label, tally.came));
+        match place {
+            Ok(at) => {
+                if let Some(tally) = self.tallies.get_mut(at) {
+                    tally.times = tally.times.saturating_add(1);
+                }
+            }
+            Err(at) => {
+                let _ = self.tallies.try_insert(
+                    at,
+                    Tally {
+                        label,
+                        came,
+                        times: 1,
+                    },
+                );
+            }
+        }
+    }
+
+    // Enters what came of a record, and the network that it left.
+    pub(crate) fn enter_line(&mut self, line: Line, network: &Network) {
+        self.count(line.mark.into(), line.reply.into());
+        self.records = self.records.saturating_add(1);
+        if network.is_full() {
+            self.with_full_queue = self.with_full_queue.saturating_add(1);
+        }
+    }
+
+    // Enters a script that both have printed.
+    pub(crate) fn enter_script(
+        &mut self,
+        printed: usize,
+        passed_over: usize,
+        difference: Option<Difference>,
+    ) {
+        self.scripts = self.scripts.saturating_add(1);
+        self.printed = self.printed.saturating_add(printed);
+        self.passed_over = self.passed_over.saturating_add(passed_over);
+        if difference.is_some() {
+            self.differing = self.differing.saturating_add(1);
+            self.first_difference = self.first_difference.or(difference);
+        }
+    }
+}
+
+impl fmt::Display for Ledger {
+    fn fmt<W: fmt::Write>(&self, f: &mut fmt::Formatter<W>) -> fmt::Result {
+        for Tally { label, came, times } in &self.tallies {
+            writeln!(f, "{label} {came}: {times}")?;
+        }
+        let Ledger {
+            with_full_queue,
+            records,
+            scripts,
+            printed,
+            passed_over,
+            differing,
+            ..
+        } = self;
+        writeln!(f, "{with_full_queue} records with 64 messages waiting")?;
+        writeln!(f, "{scripts} scripts")?;
+        writeln!(f, "{records} records")?;
+        writeln!(f, "{printed} bytes of printout")?;
+        writeln!(f, "{passed_over} places passed over in drains")?;
+        writeln!(f, "{differing} scripts differed")?;
+        if let Some(Difference { script, byte }) = self.first_difference {
+            writeln!(f, "the first is {script} at byte {byte}")?;
+        }
+        Ok(())
+    }
+}

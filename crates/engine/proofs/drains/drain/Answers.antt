@@ -1,9 +1,0 @@
--- `engine::drains::drain` meets its contract: 6 where the network is not well formed, and else the
--- drain past the test. Assumes nothing.
-use mathlib.Core.Path.{sym, ap, ◌∙◌}
-use Rattle.engine.specs.Outcomes.{counted}
-use Rattle.engine.proofs.RunLaws.{malformed_drain}
-use Rattle.engine.proofs.drains.drain.Goals as goal
-
-pub returns-else-is_well_formed : goal.returns-else-is_well_formed
-returns-else-is_well_formed c = c.refuse.ensures ∙ ap counted (sym (malformed_drain _ _ (sym c.is_well_formed.ensures ∙ c.if-is_well_formed.false)))
