@@ -61,17 +61,14 @@ fn post(network: &mut Network, posts: Posts)
 pub fn has_room(waiting: u8, posts: Posts) -> bool
     ensures { result ≡ leb (waiting + length (listed posts)) queue_limit }
 {
-    waiting as u16 + posts.count() as u16 <= QUEUE_LIMIT as u16
+    u16::from(waiting) + u16::from(posts.count()) <= u16::from(QUEUE_LIMIT)
 }
 
 // Whether the message at a place can be taken, and the posts then find room.
 fn has_room_after(place: u8, waiting: u8, posts: Posts) -> bool
     ensures { result ≡ (ltb place waiting && (leb waiting queue_limit && leb (waiting - 1 + length (listed posts)) queue_limit)) }
 {
-    if waiting <= place {
-        return false;
-    }
-    (waiting <= QUEUE_LIMIT) & has_room(waiting - 1, posts)
+    place < waiting && waiting <= QUEUE_LIMIT && has_room(waiting - 1, posts)
 }
 
 // A change carried out; one that finds no room is none.

@@ -49,7 +49,7 @@ fn report_of(outcome: Outcome, posts: Posts) -> Report
 {
     Report {
         answer: Ok(Reply::Stepped(outcome)),
-        posted: posts.count() as u32,
+        posted: u32::from(posts.count()),
     }
 }
 

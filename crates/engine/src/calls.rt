@@ -15,15 +15,14 @@ pub fn act(network: &mut Network, call: Call) -> Report
     if network.is_well_formed() {
         in_place::act(network, call)
     } else {
-        report::refused(Refusal::Malformed)
+        Report::refused(Refusal::Malformed)
     }
 }
 
 // The same by value.
-pub fn apply(network: Network, call: Call) -> Called
+pub fn apply(mut network: Network, call: Call) -> Called
     ensures { called result ≡ counted (apply_of network call) }
 {
-    let mut network = network;
     let report = act(&mut network, call);
     Called { network, report }
 }

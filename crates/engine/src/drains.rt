@@ -14,15 +14,14 @@ pub fn drain_in_place(network: &mut Network, budget: u16) -> Report
     if network.is_well_formed() {
         in_place::drain(network, budget)
     } else {
-        report::refused(Refusal::Malformed)
+        Report::refused(Refusal::Malformed)
     }
 }
 
 // The same by value.
-pub fn drain(network: Network, budget: u16) -> Called
+pub fn drain(mut network: Network, budget: u16) -> Called
     ensures { called result ≡ counted (drain_of network budget) }
 {
-    let mut network = network;
     let report = drain_in_place(&mut network, budget);
     Called { network, report }
 }

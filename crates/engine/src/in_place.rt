@@ -9,7 +9,7 @@ ghost use Rattle.engine.specs.Computed.{next_delivery, done_on, Allowed};
 use network::{Network, QUEUE_LIMIT};
 use protocol::Call;
 use refusal::Refusal;
-use report::Report;
+use report::{Report, Tally};
 use task::Task;
 
 // What the type of a network says of its arrays. A proof is told it where an element is read, and not
@@ -31,7 +31,7 @@ pub(crate) fn act(network: &mut Network, call: Call) -> Report
             access::commit(network, decision.change);
             decision.report
         }
-        Err(refusal) => report::refused(refusal),
+        Err(refusal) => Report::refused(refusal),
     }
 }
 
@@ -55,12 +55,12 @@ pub(crate) fn drain(network: &mut Network, budget: u16) -> Report
     ensures { reported network.new result ≡ counted (drain_of network.old budget) }
 {
     sizes(network);
-    let mut tally = report::no_tally();
-    while report::goes_on(tally, budget, network.waiting) {
+    let mut tally = Tally::default();
+    while tally.goes_on(budget, network.waiting) {
         let report = deliver(network);
-        tally = report::tallied(tally, report);
+        tally = tally.tallied(report);
     }
-    report::ran(tally, network.waiting)
+    tally.ran(network.waiting)
 }
 
 pub(crate) fn execute(network: &mut Network, task: Result<Task, Refusal>) -> Report
@@ -70,13 +70,13 @@ pub(crate) fn execute(network: &mut Network, task: Result<Task, Refusal>) -> Rep
     // Two matches: where one goes by cases of the `Ok`, a proof is not told which case the task is.
     let task = match task {
         Ok(task) => task,
-        Err(refusal) => return report::refused(refusal),
+        Err(refusal) => return Report::refused(refusal),
     };
     match task {
         Task::Call(call) => act(network, call),
         Task::Owner { start, serial } => {
             sizes(network);
-            report::told(owners::owner_of_record(network, start, serial))
+            Report::told(owners::owner_of_record(network, start, serial))
         }
         Task::Drain(budget) => drain(network, budget),
     }

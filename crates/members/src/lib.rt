@@ -11,12 +11,13 @@ use network::Network;
 use parts::Status;
 use protocol::{Answer, Reply};
 
-// Whether a SetRAck to a node waits.
+// Whether a SetRAck to a node waits. Not one function with the search for a notice: a test of the kind as a
+// parameter would be longer than either.
 fn ack_waits(network: &Network, number: u8) -> bool
     ensures { result ≡ ack_waits network.now number }
 {
-    let messages = network.queue();
-    messages
+    network
+        .queue()
         .iter()
         .any(|message| message.kind.is_ack() && message.to == number)
 }

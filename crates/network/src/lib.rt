@@ -7,18 +7,18 @@ ghost use Rattle.std.specs.Prelude.{◌≡◌, ◌≤◌, length, take};
 ghost use Rattle.network.specs.Arrays.{empty, live};
 ghost use Rattle.network.specs.Reads.{node_in, message_in};
 
+pub use node::CAPACITY;
 use node::Node;
 use parts::{Kind, Message, Status};
 
 mod shape;
 
-// R1.7: how many nodes and how many messages there may be.
-pub const CAPACITY: u8 = 32;
-
+// R1.7: how many messages there may be; how many nodes, `node` says.
 pub const QUEUE_LIMIT: u8 = 64;
 
 // The first `count` nodes are declared, and a node's number is its place; the first `waiting`
-// messages wait, in the order posted.
+// messages wait, in the order posted. Arrays beside their counts: the form is fixed (R11.6), and there
+// is no heap.
 #[derive(Clone, Copy, Debug, PartialEq, Eq)]
 pub struct Network {
     pub nodes: [Node; 32],

@@ -16,6 +16,7 @@ fn are_vacant_nodes(nodes: &[Node]) -> bool
     nodes.iter().all(|node| *node == VACANT_NODE)
 }
 
+// Not one function with the last: over a type parameter `==` says no more than its bound does.
 fn are_vacant_messages(messages: &[Message]) -> bool
     ensures { result ≡ every is_vacant_message messages.now }
 {
@@ -78,6 +79,7 @@ fn node_is_well_formed(nodes: &[Node], messages: &[Message], number: usize) -> b
             & (exchanges_of(messages, number as u8) <= exchanges_allowed(node.status)))
 }
 
+// Not by `all`: what it ensures of a range did not lead to the definition.
 fn nodes_are_well_formed(nodes: &[Node], messages: &[Message]) -> bool
     requires { length nodes.now ≤ 32 }
     ensures { result ≡ every_below (length nodes.now) (node_is_well_formed (record { nodes = nodes.now; messages = messages.now })) }

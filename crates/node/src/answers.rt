@@ -2,51 +2,35 @@
 ghost use Rattle.std.specs.Prelude.{◌≡◌};
 ghost use Rattle.node.specs.Actions.{effect, on_set_r_ack, on_set_r_nak};
 
-use crate::{Node, Outcome, Step, steps};
+use crate::{Node, Outcome, Step};
 use parts::Status;
 use sequence::Number;
 
-pub fn on_set_r_ack(node: Node, number: Number) -> Step
-    ensures { effect result ≡ on_set_r_ack node.status node number }
-{
-    match node.status {
-        Status::Out | Status::In => steps::silent(node, Outcome::Dropped),
-        Status::Ins => {
-            let joined = Node {
-                status: Status::In,
-                rseq: Some(number),
-                ..node
-            };
-            steps::silent(joined, Outcome::Joined)
-        }
-        Status::Del => {
-            let gone = Node {
-                status: Status::Out,
-                ..node
-            };
-            steps::silent(gone, Outcome::Gone)
+impl Node {
+    pub(crate) fn on_set_r_ack(self, number: Number) -> Step
+        ensures { effect result ≡ on_set_r_ack self.status self number }
+    {
+        match self.status {
+            Status::Out | Status::In => self.silent(Outcome::Dropped),
+            Status::Ins => {
+                let joined = Node {
+                    status: Status::In,
+                    rseq: Some(number),
+                    ..self
+                };
+                joined.silent(Outcome::Joined)
+            }
+            Status::Del => self.with_status(Status::Out).silent(Outcome::Gone),
         }
     }
-}
 
-pub fn on_set_r_nak(node: Node) -> Step
-    ensures { effect result ≡ on_set_r_nak node.status node }
-{
-    match node.status {
-        Status::Out | Status::In => steps::silent(node, Outcome::Dropped),
-        Status::Ins => {
-            let stays_out = Node {
-                status: Status::Out,
-                ..node
-            };
-            steps::silent(stays_out, Outcome::JoinDenied)
-        }
-        Status::Del => {
-            let stays_in = Node {
-                status: Status::In,
-                ..node
-            };
-            steps::silent(stays_in, Outcome::LeaveDenied)
+    pub(crate) fn on_set_r_nak(self) -> Step
+        ensures { effect result ≡ on_set_r_nak self.status self }
+    {
+        match self.status {
+            Status::Out | Status::In => self.silent(Outcome::Dropped),
+            Status::Ins => self.with_status(Status::Out).silent(Outcome::JoinDenied),
+            Status::Del => self.with_status(Status::In).silent(Outcome::LeaveDenied),
         }
     }
 }

@@ -2,7 +2,7 @@
 ghost use Rattle.std.specs.Prelude.{◌≡◌};
 ghost use Rattle.node.specs.Actions.{effect, create_of};
 
-use crate::{Node, Outcome, Step, shape, steps};
+use crate::{Node, Outcome, Step};
 use parts::Status;
 use refusal::Refusal;
 
@@ -11,11 +11,11 @@ impl Node {
     pub fn create(self, me: u8) -> Step
         ensures { effect result ≡ create_of me self }
     {
-        if !shape::is_well_formed(self, me) {
-            return steps::refuse(self, Refusal::Malformed);
+        if !self.is_well_formed(me) {
+            return self.refuse(Refusal::Malformed);
         }
         if self.status != Status::Out {
-            return steps::refuse(self, Refusal::NotOut);
+            return self.refuse(Refusal::NotOut);
         }
         let first = sequence::first();
         let created = Node {
@@ -26,6 +26,6 @@ impl Node {
             rseq: Some(first),
             ..self
         };
-        steps::silent(created, Outcome::Created)
+        created.silent(Outcome::Created)
     }
 }

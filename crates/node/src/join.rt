@@ -2,7 +2,7 @@
 ghost use Rattle.std.specs.Prelude.{◌≡◌};
 ghost use Rattle.node.specs.Actions.{effect, join_unchecked, join_of};
 
-use crate::{Node, Outcome, Peer, Step, shape, steps};
+use crate::{Node, Outcome, Peer, Step};
 use parts::{Kind, Message, Status};
 use refusal::Refusal;
 
@@ -13,10 +13,10 @@ impl Node {
         ensures { effect result ≡ join_unchecked me self left right }
     {
         if self.status != Status::Out {
-            return steps::refuse(self, Refusal::NotOut);
+            return self.refuse(Refusal::NotOut);
         }
         if !interval::is_between(left.key, right.key, self.key) {
-            return steps::refuse(self, Refusal::NotBetween);
+            return self.refuse(Refusal::NotBetween);
         }
         let joining = Node {
             status: Status::Ins,
@@ -33,15 +33,15 @@ impl Node {
                 number: self.lseq,
             },
         };
-        steps::posts_one(joining, request, Outcome::Waiting)
+        joining.posts_one(request, Outcome::Waiting)
     }
 
     #[tactic(auto, unfolding(crate::specs::Actions::join_of, crate::specs::Actions::join_unchecked))]
     pub fn join(self, me: u8, left: Peer, right: Peer) -> Step
         ensures { effect result ≡ join_of me self left right }
     {
-        if !(shape::is_well_formed(self, me) & (shape::peer_fits(left) & shape::peer_fits(right))) {
-            return steps::refuse(self, Refusal::Malformed);
+        if !(self.is_well_formed(me) & (left.fits() & right.fits())) {
+            return self.refuse(Refusal::Malformed);
         }
         self.join_unchecked(me, left, right)
     }

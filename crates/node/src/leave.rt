@@ -3,7 +3,7 @@
 ghost use Rattle.std.specs.Prelude.{◌≡◌};
 ghost use Rattle.node.specs.Actions.{effect, leave_unchecked, leave_of};
 
-use crate::{Node, Outcome, Step, shape, steps};
+use crate::{Node, Outcome, Step};
 use parts::{Kind, Message, Status};
 use refusal::Refusal;
 
@@ -15,22 +15,14 @@ impl Node {
     {
         let last = self.right_number();
         if self.status != Status::In {
-            return steps::refuse(self, Refusal::NotIn);
+            return self.refuse(Refusal::NotIn);
         }
         if self.right == Some(me) {
-            let alone = Node {
-                status: Status::Out,
-                ..self
-            };
-            return steps::silent(alone, Outcome::LeftAlone);
+            return self.with_status(Status::Out).silent(Outcome::LeftAlone);
         }
         if !sequence::has_next(last) {
-            return steps::refuse(self, Refusal::SequenceSpent);
+            return self.refuse(Refusal::SequenceSpent);
         }
-        let leaving = Node {
-            status: Status::Del,
-            ..self
-        };
         let request = Message {
             sender: me,
             to: self.left.unwrap_or(0),
@@ -40,15 +32,16 @@ impl Node {
                 number: sequence::capped_next(last),
             },
         };
-        steps::posts_one(leaving, request, Outcome::Waiting)
+        self.with_status(Status::Del)
+            .posts_one(request, Outcome::Waiting)
     }
 
     #[tactic(auto, unfolding(crate::specs::Actions::leave_of, crate::specs::Actions::leave_unchecked))]
     pub fn leave(self, me: u8) -> Step
         ensures { effect result ≡ leave_of me self }
     {
-        if !shape::is_well_formed(self, me) {
-            return steps::refuse(self, Refusal::Malformed);
+        if !self.is_well_formed(me) {
+            return self.refuse(Refusal::Malformed);
         }
         self.leave_unchecked(me)
     }

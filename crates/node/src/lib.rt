@@ -18,6 +18,9 @@ mod set_r;
 mod shape;
 mod steps;
 
+// R1.7: how many nodes there may be; a single step knows no count but this.
+pub const CAPACITY: u8 = 32;
+
 // R1.3.
 #[derive(Clone, Copy, Debug, PartialEq, Eq)]
 pub struct Node {

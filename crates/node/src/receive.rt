@@ -2,7 +2,7 @@
 ghost use Rattle.std.specs.Prelude.{◌≡◌};
 ghost use Rattle.node.specs.Actions.{effect, set_r, set_r_ack, set_r_nak, set_l, act_of, receive_of};
 
-use crate::{Node, Outcome, Step, answers, set_l, set_r, shape, steps};
+use crate::{Node, Outcome, Step, shape};
 use parts::{Kind, Message, Status};
 use refusal::Refusal;
 use sequence::Number;
@@ -14,17 +14,17 @@ impl Node {
         ensures { effect result ≡ act_of me self sender kind }
     {
         if self.status == Status::Out {
-            return steps::silent(self, Outcome::Dropped);
+            return self.silent(Outcome::Dropped);
         }
         match kind {
             Kind::SetR {
                 new,
                 expected,
                 number,
-            } => set_r::on_set_r(self, me, sender, new, expected, number),
-            Kind::SetRAck { number } => answers::on_set_r_ack(self, number),
-            Kind::SetRNak => answers::on_set_r_nak(self),
-            Kind::SetL { left, number } => set_l::on_set_l(self, left, number),
+            } => self.on_set_r(me, sender, new, expected, number),
+            Kind::SetRAck { number } => self.on_set_r_ack(number),
+            Kind::SetRNak => self.on_set_r_nak(),
+            Kind::SetL { left, number } => self.on_set_l(left, number),
         }
     }
 
@@ -33,8 +33,8 @@ impl Node {
     pub fn receive(self, me: u8, message: Message) -> Step
         ensures { effect result ≡ receive_of me self message }
     {
-        if !(shape::is_well_formed(self, me) & shape::is_deliverable(message, me)) {
-            return steps::refuse(self, Refusal::Malformed);
+        if !(self.is_well_formed(me) & shape::is_deliverable(message, me)) {
+            return self.refuse(Refusal::Malformed);
         }
         self.act(me, message.sender, message.kind)
     }

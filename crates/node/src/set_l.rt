@@ -2,19 +2,21 @@
 ghost use Rattle.std.specs.Prelude.{◌≡◌};
 ghost use Rattle.node.specs.Actions.{effect, on_set_l};
 
-use crate::{Node, Outcome, Step, steps};
+use crate::{Node, Outcome, Step};
 use sequence::Number;
 
-pub fn on_set_l(node: Node, left: u8, number: Number) -> Step
-    ensures { effect result ≡ on_set_l node left number }
-{
-    if sequence::is_newer(number, node.lseq) {
-        let relinked = Node {
-            left: Some(left),
-            lseq: number,
-            ..node
-        };
-        return steps::silent(relinked, Outcome::LeftSet);
+impl Node {
+    pub(crate) fn on_set_l(self, left: u8, number: Number) -> Step
+        ensures { effect result ≡ on_set_l self left number }
+    {
+        if sequence::is_newer(number, self.lseq) {
+            let relinked = Node {
+                left: Some(left),
+                lseq: number,
+                ..self
+            };
+            return relinked.silent(Outcome::LeftSet);
+        }
+        self.silent(Outcome::LeftOld)
     }
-    steps::silent(node, Outcome::LeftOld)
 }

@@ -3,18 +3,9 @@ ghost use Rattle.std.specs.Prelude.{◌≡◌};
 ghost use Rattle.parts.specs.Tests.{seq_of};
 ghost use Rattle.node.specs.Actions.{effect, grants, would_grant, on_set_r};
 
-use crate::{Node, Outcome, Step, steps};
+use crate::{Node, Outcome, Step};
 use parts::{Kind, Message, Posts, Status};
 use sequence::Number;
-
-#[tactic(auto, unfolding(crate::specs::Actions::grants))]
-fn grants_request(node: Node, sender: u8, new: u8, expected: u8) -> bool
-    ensures { result ≡ grants node sender new expected }
-{
-    (node.status == Status::In)
-        & ((node.right == Some(expected))
-            & ((new != sender) | sequence::has_next(node.right_number())))
-}
 
 impl Node {
     // The right number; the first number where there is none.
@@ -29,53 +20,62 @@ impl Node {
         ensures { result ≡ would_grant self sender kind }
     {
         match kind {
-            Kind::SetR { new, expected, .. } => grants_request(self, sender, new, expected),
+            Kind::SetR { new, expected, .. } => self.grants_request(sender, new, expected),
             Kind::SetRAck { .. } | Kind::SetRNak | Kind::SetL { .. } => false,
         }
     }
-}
 
-pub fn on_set_r(node: Node, me: u8, sender: u8, new: u8, expected: u8, number: Number) -> Step
-    ensures { effect result ≡ on_set_r me node sender new expected number }
-{
-    if !grants_request(node, sender, new, expected) {
-        let nak = Message {
+    #[tactic(auto, unfolding(crate::specs::Actions::grants))]
+    fn grants_request(self, sender: u8, new: u8, expected: u8) -> bool
+        ensures { result ≡ grants self sender new expected }
+    {
+        (self.status == Status::In)
+            & ((self.right == Some(expected))
+                & ((new != sender) | sequence::has_next(self.right_number())))
+    }
+
+    pub(crate) fn on_set_r(self, me: u8, sender: u8, new: u8, expected: u8, number: Number) -> Step
+        ensures { effect result ≡ on_set_r me self sender new expected number }
+    {
+        if !self.grants_request(sender, new, expected) {
+            let nak = Message {
+                sender: me,
+                to: sender,
+                kind: Kind::SetRNak,
+            };
+            return self.posts_one(nak, Outcome::Denied);
+        }
+        let next = sequence::capped_next(self.right_number());
+        let relinked = Node {
+            right: Some(new),
+            rseq: Some(number),
+            ..self
+        };
+        let ack = Message {
             sender: me,
             to: sender,
-            kind: Kind::SetRNak,
+            kind: Kind::SetRAck { number: next },
         };
-        return steps::posts_one(node, nak, Outcome::Denied);
-    }
-    let next = sequence::capped_next(node.right_number());
-    let relinked = Node {
-        right: Some(new),
-        rseq: Some(number),
-        ..node
-    };
-    let ack = Message {
-        sender: me,
-        to: sender,
-        kind: Kind::SetRAck { number: next },
-    };
-    let notice = if new == sender {
-        Message {
-            sender: me,
-            to: node.right.unwrap_or(0),
-            kind: Kind::SetL {
-                left: sender,
-                number: next,
-            },
+        let notice = if new == sender {
+            Message {
+                sender: me,
+                to: self.right.unwrap_or(0),
+                kind: Kind::SetL {
+                    left: sender,
+                    number: next,
+                },
+            }
+        } else {
+            Message {
+                sender: me,
+                to: new,
+                kind: Kind::SetL { left: me, number },
+            }
+        };
+        Step {
+            node: relinked,
+            posts: Posts::Two(notice, ack),
+            verdict: Ok(Outcome::Granted),
         }
-    } else {
-        Message {
-            sender: me,
-            to: new,
-            kind: Kind::SetL { left: me, number },
-        }
-    };
-    Step {
-        node: relinked,
-        posts: Posts::Two(notice, ack),
-        verdict: Ok(Outcome::Granted),
     }
 }

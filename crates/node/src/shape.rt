@@ -2,7 +2,7 @@
 ghost use Rattle.std.specs.Prelude.{◌≡◌};
 ghost use Rattle.node.specs.Shape.{node_fits, well_formed, deliverable, peer_fits};
 
-use crate::{Node, Peer};
+use crate::{CAPACITY, Node, Peer};
 use parts::Message;
 
 impl Node {
@@ -14,28 +14,27 @@ impl Node {
         serial::in_range(self.key)
             & parts::links_fit(self.status, self.left, self.right, self.rseq, count)
     }
+
+    #[tactic(auto, unfolding(crate::specs::Shape::well_formed))]
+    pub(crate) fn is_well_formed(self, me: u8) -> bool
+        ensures { result ≡ well_formed me self }
+    {
+        (me < CAPACITY) & self.fits(CAPACITY)
+    }
 }
 
-// A single step knows no count but this limit.
-const CAPACITY: u8 = 32;
-
-#[tactic(auto, unfolding(crate::specs::Shape::well_formed))]
-pub fn is_well_formed(node: Node, me: u8) -> bool
-    ensures { result ≡ well_formed me node }
-{
-    (me < CAPACITY) & node.fits(CAPACITY)
+impl Peer {
+    #[tactic(auto, unfolding(crate::specs::Shape::peer_fits))]
+    pub(crate) fn fits(self) -> bool
+        ensures { result ≡ peer_fits self }
+    {
+        (self.number < CAPACITY) & serial::in_range(self.key)
+    }
 }
 
 #[tactic(auto, unfolding(crate::specs::Shape::deliverable))]
-pub fn is_deliverable(message: Message, me: u8) -> bool
+pub(crate) fn is_deliverable(message: Message, me: u8) -> bool
     ensures { result ≡ deliverable me message }
 {
     (message.to == me) & message.fits(CAPACITY)
-}
-
-#[tactic(auto, unfolding(crate::specs::Shape::peer_fits))]
-pub fn peer_fits(peer: Peer) -> bool
-    ensures { result ≡ peer_fits peer }
-{
-    (peer.number < CAPACITY) & serial::in_range(peer.key)
 }

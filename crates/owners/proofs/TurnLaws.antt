@@ -1,6 +1,6 @@
 -- What the loop needs: each turn of the walk along right links is the definition's own step.
 -- Assumes nothing.
-use Rattle.std.specs.Prelude.{Some, None}
+use Rattle.std.specs.Prelude.{Some}
 use mathlib.Core.Path.{◌≡◌, ap, ◌∙◌}
 use mathlib.Core.Bool.{Bool, true, false, cond}
 use Prim.Native.Nat.{ℕ, suc, ◌+◌, ◌-◌, ◌<◌}
@@ -8,7 +8,7 @@ use native.Mathlib.Omega.{arith}
 use native.Mathlib.Numerals.{add-one}
 use Rattle.interval.specs.Interval.{within}
 use Rattle.parts.specs.Tests.{Link}
-use Rattle.protocol.specs.Questions.{Walk, found, lost}
+use Rattle.protocol.specs.Questions.{Walk, found}
 use Rattle.network.specs.declared.Network.{Network}
 use Rattle.network.specs.Reads.{node_in}
 use Rattle.owners.specs.Owners.{walk_at, walk_from}
@@ -25,16 +25,9 @@ module _ (n : Network) (serial u hops : ℕ) (more : hops < n.count) where
       ap (λ (left : ℕ). walk_from n serial left u hops) one_less
       ∙ ap (λ (x : Link). walk_at n serial u hops x (λ q. standing n serial q (suc hops))) e
 
-  pub link-missing : (node_in n u).right ≡ None → standing n serial u hops ≡ lost
-  link-missing e = followed None e
-
   module _ (q : ℕ) (e : (node_in n u).right ≡ Some q) where
     pub owner_found : within (node_in n u).key (node_in n q).key serial ≡ true → standing n serial u hops ≡ found u hops
     owner_found w = followed (Some q) e ∙ ap (λ (b : Bool). cond b (found u hops) (standing n serial q (suc hops))) w
 
     pub goes_on : within (node_in n u).key (node_in n q).key serial ≡ false → standing n serial u hops ≡ standing n serial q (hops + 1)
     goes_on w = rw add-one (followed (Some q) e ∙ ap (λ (b : Bool). cond b (found u hops) (standing n serial q (suc hops))) w)
-
--- no hop is left to make
-pub hops-spent : (n : Network) (serial u hops : ℕ) → n.count - hops ≡ 0 → standing n serial u hops ≡ lost
-hops-spent n serial u hops e = ap (λ (left : ℕ). walk_from n serial left u hops) e

@@ -1,5 +1,5 @@
 -- Tests of the parts of a node and of a message: its status, a link, a number that a node may lack,
--- a kind. Each goes by cases, once. Definitions only.
+-- a kind. Each is said once. Definitions only.
 use Rattle.std.specs.Prelude.{ℕ, Bool, true, false, ◌||◌, eqb, Option, Some, None}
 use Rattle.std.specs.Option.{unwrap_or}
 use Rattle.sequence.specs.Sequence.{Number, first_seq, is_seq}

@@ -1,5 +1,4 @@
-// Tests of a kind of message, and how many messages a step posts. A status is compared by `==`, and
-// a link or a number that a node may lack by what `Option` has.
+// Tests of a kind of message, and how many messages a step posts.
 ghost use Rattle.std.specs.Prelude.{◌≡◌, length};
 ghost use Rattle.parts.specs.Tests.{is_ack, is_notice};
 ghost use Rattle.parts.specs.Posts.{posted};

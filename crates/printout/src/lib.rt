@@ -22,7 +22,7 @@ fn put_pair<const N: usize>(text: &mut Page<N>, word: &[u8], n: u16, second: &[u
     ensures short { length (pair word.now n second.now m) ≤ length word.now + length second.now + 15 }
 {
     text.append(word);
-    text.append_decimal(n as u32);
+    text.append_decimal(u32::from(n));
     text.append(second);
     text.append_decimal(m);
 }
@@ -35,19 +35,18 @@ fn put_reply<const N: usize>(text: &mut Page<N>, reply: Reply)
 {
     match reply {
         Reply::Declared { number, key } => {
-            put_pair(text, b"bench ", number as u16, b" key ", key);
+            put_pair(text, b"bench ", u16::from(number), b" key ", key);
         }
         Reply::Stepped(outcome) => text.append(words::word(outcome)),
         Reply::Owner { node, hops } => {
-            put_pair(text, b"owner ", node as u16, b" hops ", hops as u32);
+            put_pair(text, b"owner ", u16::from(node), b" hops ", u32::from(hops));
         }
-        Reply::Ran { made, left } => put_pair(text, b"ran ", made, b" left ", left as u32),
-        Reply::Inserted { word: _, size: _ } => {}
+        Reply::Ran { made, left } => put_pair(text, b"ran ", made, b" left ", u32::from(left)),
+        Reply::Inserted { .. } => {}
     }
 }
 
 // The line of a record that is done.
-#[tactic(auto)]
 pub fn reply_line<const N: usize>(text: &mut Page<N>, ordinal: u32, reply: Reply)
     ensures text_after { text.new ≡ printed N text.old (line_of ordinal (done reply)) }
     ensures short { length text.new ≤ length text.old + 40 }
@@ -61,7 +60,6 @@ pub fn reply_line<const N: usize>(text: &mut Page<N>, ordinal: u32, reply: Reply
 }
 
 // The line of a record that is refused.
-#[tactic(auto)]
 pub fn refusal_line<const N: usize>(text: &mut Page<N>, ordinal: u32, refusal: Refusal)
     ensures text_after { text.new ≡ printed N text.old (line_of ordinal (no (reason refusal))) }
     ensures short { length text.new ≤ length text.old + 40 }
@@ -69,7 +67,7 @@ pub fn refusal_line<const N: usize>(text: &mut Page<N>, ordinal: u32, refusal: R
     if text.has_room(LINE) {
         text.append_decimal(ordinal);
         text.append(b" no ");
-        text.append_decimal(refusal.number() as u32);
+        text.append_decimal(u32::from(refusal.number()));
         text.append(b"\n");
     }
 }
@@ -80,7 +78,7 @@ pub fn last_line<const N: usize>(text: &mut Page<N>, waiting: u8, posted: u32)
     ensures short { length text.new ≤ length text.old + 40 }
 {
     if text.has_room(LINE) {
-        put_pair(text, b"end ", waiting as u16, b" posted ", posted);
+        put_pair(text, b"end ", u16::from(waiting), b" posted ", posted);
         text.append(b"\n");
     }
 }

@@ -31,7 +31,7 @@ pub fn leave_record<const N: usize>(
     ensures text_after { text.new ≡ printed N text.old (line_after p report) }
     ensures short { length text.new ≤ length text.old + 40 }
 {
-    let ordinal = std::num::wrapping_add_u32(p.ordinal, 1);
+    let ordinal = p.ordinal.wrapping_add(1);
     let answer = report.answer;
     let Ok(reply) = answer else {
         printout::refusal_line(text, ordinal, answer.unwrap_err());
@@ -45,7 +45,7 @@ pub fn leave_record<const N: usize>(
     Progress {
         at: after,
         ordinal,
-        posted: std::num::wrapping_add_u32(p.posted, report.posted),
+        posted: p.posted.wrapping_add(report.posted),
     }
 }
 

@@ -23,7 +23,7 @@ abbrev pub first : List Rule → Option Reason
 first [] = None
 first (rule r refuses ∷ rules) = cond refuses (Some r) (first rules)
 
--- R11.3: what the code's check says
+-- R11.3: what a result of the code refuses
 abbrev pub checked : {A : Type 0} → Result A Refusal → Option Reason
 checked (Ok a) = None
 checked (Err r) = Some (reason r)

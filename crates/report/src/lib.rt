@@ -18,58 +18,56 @@ pub struct Report {
     pub posted: u32,
 }
 
-// What is only told: nothing is posted.
-pub fn told(answer: Answer) -> Report
-    ensures { (answered result.answer ≡ answered answer) × (result.posted ≡ 0) }
-{
-    Report { answer, posted: 0 }
-}
+impl Report {
+    // What is only told: nothing is posted.
+    pub fn told(answer: Answer) -> Report
+        ensures { (answered result.answer ≡ answered answer) × (result.posted ≡ 0) }
+    {
+        Report { answer, posted: 0 }
+    }
 
-pub fn refused(refusal: Refusal) -> Report
-    ensures { (answered result.answer ≡ no (reason refusal)) × (result.posted ≡ 0) }
-{
-    told(Err(refusal))
+    pub fn refused(refusal: Refusal) -> Report
+        ensures { (answered result.answer ≡ no (reason refusal)) × (result.posted ≡ 0) }
+    {
+        Report::told(Err(refusal))
+    }
 }
 
 // What a drain has done so far: the deliveries made, and the messages that they posted.
-#[derive(Clone, Copy, Debug, PartialEq, Eq)]
+#[derive(Clone, Copy, Debug, Default, PartialEq, Eq)]
 pub struct Tally {
     pub made: u16,
     pub posted: u32,
 }
 
-pub fn no_tally() -> Tally
-    ensures { result ≡ record { made = 0; posted = 0 } }
-{
-    Tally { made: 0, posted: 0 }
-}
-
-// Whether a drain goes on (R8.1), with so many messages waiting.
-pub fn goes_on(tally: Tally, budget: u16, waiting: u8) -> bool
-    ensures { result ≡ (nat_lt tally.made budget && nat_lt 0 waiting) }
-{
-    (tally.made < budget) & (0 < waiting)
-}
-
-// One delivery more. Counts wrap, so that nothing is asked of the caller; those of a drain stay far
-// below.
-pub fn tallied(tally: Tally, report: Report) -> Tally
-    ensures { (result.made ≡ (tally.made + 1) % 2 ^ 16) × (result.posted ≡ (tally.posted + report.posted) % 2 ^ 32) }
-{
-    Tally {
-        made: std::num::wrapping_add_u16(tally.made, 1),
-        posted: std::num::wrapping_add_u32(tally.posted, report.posted),
+impl Tally {
+    // Whether a drain goes on (R8.1), with so many messages waiting.
+    pub fn goes_on(self, budget: u16, waiting: u8) -> bool
+        ensures { result ≡ (nat_lt self.made budget && nat_lt 0 waiting) }
+    {
+        (self.made < budget) & (0 < waiting)
     }
-}
 
-pub fn ran(tally: Tally, left: u8) -> Report
-    ensures { (answered result.answer ≡ done (Ran tally.made left)) × (result.posted ≡ tally.posted) }
-{
-    Report {
-        answer: Ok(Reply::Ran {
-            made: tally.made,
-            left,
-        }),
-        posted: tally.posted,
+    // One delivery more. Counts wrap, so that nothing is asked of the caller; those of a drain stay
+    // far below.
+    pub fn tallied(self, report: Report) -> Tally
+        ensures { (result.made ≡ (self.made + 1) % 2 ^ 16) × (result.posted ≡ (self.posted + report.posted) % 2 ^ 32) }
+    {
+        Tally {
+            made: self.made.wrapping_add(1),
+            posted: self.posted.wrapping_add(report.posted),
+        }
+    }
+
+    pub fn ran(self, left: u8) -> Report
+        ensures { (answered result.answer ≡ done (Ran self.made left)) × (result.posted ≡ self.posted) }
+    {
+        Report {
+            answer: Ok(Reply::Ran {
+                made: self.made,
+                left,
+            }),
+            posted: self.posted,
+        }
     }
 }

@@ -16,7 +16,8 @@ const BROKEN_PIPE: u8 = 141;
 
 // Reads until the input ends or the buffer is full: a read then has no room, and answers 0 as at
 // the end. A pipe hands out a piece at a time, and a read that a signal interrupts is made again.
-// Nothing says how often, so the turns are counted, up to a number that no run uses up.
+// Nothing says how often, so the turns are counted, up to a number that no run uses up. (`read_to_end`
+// wants the heap.)
 fn read_script(reader: &mut impl Read, script: &mut [u8]) -> io::Result<usize>
     ensures { IfOk result (λ size. size ≤ length script.new) }
 {

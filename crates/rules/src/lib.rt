@@ -1,6 +1,6 @@
 // The rules as code: what an order or a delivery comes to, from the few values that its rules look
 // at, which is its refusal, or the change to be carried out and what is told of it. No network is
-// handed in and none is changed, so that a call by value and a call in place are the same decision.
+// handed in and none is changed.
 // `specs/` says it, with the steps of the crate `node` and what `decision` makes of them; that on a
 // well-formed network this is what the crate `protocol` says is proved in the crate `engine`.
 #![tactic(auto)]

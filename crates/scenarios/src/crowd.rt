@@ -3,7 +3,7 @@
 // function puts records behind those that a script has.
 ghost use Rattle.std.specs.Prelude.{◌≤◌};
 
-use crate::{Run, line_end, show};
+use crate::{Run, line_end};
 use std::io;
 use text::Page;
 
@@ -41,23 +41,21 @@ fn leave_again(script: &mut Script, last: u8, leavers: u8)
 }
 
 // Shows a script that begins with the records put so far, and goes on with those behind a title.
-pub(crate) fn show_on(
-    rt: &impl Print,
-    run: &mut Run,
+pub(crate) fn show_on<R: Print>(
+    run: &mut Run<R>,
     script: &mut Script,
     text: &[u8],
 ) -> io::Result<()> {
-    let start = line_end(text);
-    script.append(&text[start..]);
-    show(rt, run, &text[0..start], script.as_bytes())
+    let (title, records) = text.split_at(line_end(text));
+    script.append(records);
+    run.show(title, script.as_bytes())
 }
 
 // Shows a script that begins with joins and leaves. RD delivers just the requests to join. Then 2 *
 // joiners messages wait: of node i the left notice to its right at 2 * i - 2, and the answer at 2 *
 // i - 1. After the leaves 2 * joiners + leavers wait.
-pub(crate) fn scene_after(
-    rt: &impl Print,
-    run: &mut Run,
+pub(crate) fn scene_after<R: Print>(
+    run: &mut Run<R>,
     joiners: u8,
     leavers: u8,
     text: &[u8],
@@ -69,5 +67,5 @@ pub(crate) fn scene_after(
     ask_all(&mut script, joiners);
     script.append(&[b'R', b'D', joiners, 0]);
     leave_again(&mut script, joiners, leavers);
-    show_on(rt, run, &mut script, text)
+    show_on(run, &mut script, text)
 }

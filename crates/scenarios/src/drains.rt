@@ -1,13 +1,11 @@
 // Where a drain ends, and what it delivers.
-use crate::{Run, crowd, scene};
+use crate::{Run, crowd};
 use std::io;
 
-pub(crate) fn cases(rt: &impl Print, run: &mut Run) -> io::Result<()> {
+pub(crate) fn cases<R: Print>(run: &mut Run<R>) -> io::Result<()> {
     // R8.1, R8.2, R9.3: budgets of 0, of 1 and 2 with more waiting, and of 256 and 65,535 with
     // less.
-    scene(
-        rt,
-        run,
+    run.scene(
         b"a drain ends with its budget, or when nothing waits\n\
           BC\x00\x00\x10\x00\
           BC\x00\x00\x20\x00\
@@ -21,18 +19,17 @@ pub(crate) fn cases(rt: &impl Print, run: &mut Run) -> io::Result<()> {
           RD\x00\x01\
           RD\xff\xff",
     )?;
-    refused_place(rt, run)
+    refused_place(run)
 }
 
 // R8.1, R6.10, refusal 28: the request of node 31 comes to stand at place 0, before the notices and
 // answers of the nodes 1 to 30, and once 30, 29 and 28 have left, 64 messages wait and node 0 would
 // grant it. A drain of 1 delivers the notice at place 1; then, with 63 waiting, the request.
-fn refused_place(rt: &impl Print, run: &mut Run) -> io::Result<()> {
+fn refused_place<R: Print>(run: &mut Run<R>) -> io::Result<()> {
     let mut script = crowd::Script::new();
     crowd::declare_all(&mut script);
     crowd::ask_all(&mut script, 30);
     crowd::show_on(
-        rt,
         run,
         &mut script,
         b"with 64 waiting, a drain passes over a request that is refused 28\n\

@@ -24,28 +24,45 @@ use model::printing::first_difference;
 use std::io;
 use text::Page;
 
-// How many scripts were run, and at how many the second implementation differed.
-#[derive(Default, Drop)]
-pub(crate) struct Run {
+// Where the run prints, how many scripts were run, and at how many the second implementation
+// differed.
+#[derive(Drop)]
+pub(crate) struct Run<'a, R: Print> {
+    rt: &'a R,
     scripts: usize,
     different: usize,
 }
 
-// Runs a script through both implementations, writes its title and the printout of the first, and
-// says where the two printouts differ, if they do.
-pub(crate) fn show(rt: &impl Print, run: &mut Run, title: &[u8], script: &[u8]) -> io::Result<()> {
-    let mut page = Page::new();
-    engine::printout(script, &mut page);
-    let printout = page.as_bytes();
-    rt.write_all(b"== ")?;
-    rt.write_all(title)?;
-    rt.write_all(printout)?;
-    run.scripts = run.scripts.saturating_add(1);
-    if let Some(place) = first_difference(script, printout) {
-        run.different = run.different.saturating_add(1);
-        println!(rt; "== the second implementation differs at byte {place}")?;
+impl<R: Print> Run<'_, R> {
+    // Runs a script through both implementations, writes its title and the printout of the first,
+    // and says where the two printouts differ, if they do.
+    pub(crate) fn show(&mut self, title: &[u8], script: &[u8]) -> io::Result<()> {
+        let mut page = Page::new();
+        engine::printout(script, &mut page);
+        let printout = page.as_bytes();
+        self.rt.write_all(b"== ")?;
+        self.rt.write_all(title)?;
+        self.rt.write_all(printout)?;
+        self.scripts = self.scripts.saturating_add(1);
+        if let Some(place) = first_difference(script, printout) {
+            self.different = self.different.saturating_add(1);
+            println!(self.rt; "== the second implementation differs at byte {place}")?;
+        }
+        Ok(())
     }
-    Ok(())
+
+    // Shows a script that stands behind its title, from the next line on.
+    pub(crate) fn scene(&mut self, text: &[u8]) -> io::Result<()> {
+        let (title, script) = text.split_at(line_end(text));
+        self.show(title, script)
+    }
+
+    fn scenes(&mut self, texts: &[&[u8]]) -> io::Result<()> {
+        for text in texts {
+            self.scene(text)?;
+        }
+        Ok(())
+    }
 }
 
 // The place after the first line end, or after the text.
@@ -57,26 +74,26 @@ pub(crate) fn line_end(text: &[u8]) -> usize
         .map_or(text.len(), |at| at + 1)
 }
 
-// Shows a script that stands behind its title, from the next line on.
-pub(crate) fn scene(rt: &impl Print, run: &mut Run, text: &[u8]) -> io::Result<()> {
-    let (title, script) = text.split_at(line_end(text));
-    show(rt, run, title, script)
-}
-
 fn main(rt: HostRuntime) -> io::Result<()> {
-    let mut run = Run::default();
-    fitter::cases(&rt, &mut run)?;
-    input::marks(&rt, &mut run)?;
-    input::fields(&rt, &mut run)?;
-    input::sizes(&rt, &mut run)?;
-    state::orders(&rt, &mut run)?;
-    state::full_queues(&rt, &mut run)?;
-    state::deliveries_and_questions(&rt, &mut run)?;
-    actions::notices(&rt, &mut run)?;
-    actions::drops(&rt, &mut run)?;
-    actions::denials(&rt, &mut run)?;
-    drains::cases(&rt, &mut run)?;
-    sheets::all(&rt, &mut run)?;
-    let Run { scripts, different } = run;
-    println!(rt; "== {scripts} scripts, {different} differ from the second implementation")
+    let mut run = Run {
+        rt: &rt,
+        scripts: 0,
+        different: 0,
+    };
+    fitter::cases(&mut run)?;
+    run.scenes(&input::MARKS)?;
+    run.scenes(&input::FIELDS)?;
+    input::sizes(&mut run)?;
+    run.scenes(&state::ORDERS)?;
+    state::full_queues(&mut run)?;
+    run.scenes(&state::DELIVERIES_AND_QUESTIONS)?;
+    run.scenes(&actions::NOTICES)?;
+    run.scenes(&actions::DROPS)?;
+    run.scenes(&actions::DENIALS)?;
+    drains::cases(&mut run)?;
+    run.scenes(&sheets::ALL)?;
+    println!(rt;
+        "== {} scripts, {} differ from the second implementation",
+        run.scripts, run.different
+    )
 }

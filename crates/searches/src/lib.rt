@@ -11,18 +11,12 @@ use protocol::Order;
 
 // What is found: whether a node has the key that is declared, whether some node is not out, and
 // whether a notice to a node waits. What an order does not ask is false.
-#[derive(Clone, Copy)]
+#[derive(Clone, Copy, Debug, Default, PartialEq, Eq)]
 pub struct Found {
     pub taken: bool,
     pub standing: bool,
     pub notice: bool,
 }
-
-const NOTHING: Found = Found {
-    taken: false,
-    standing: false,
-    notice: false,
-};
 
 fn key_is_taken(network: &Network, key: u32) -> bool
     ensures { result ≡ key_is_taken network.now key }
@@ -33,15 +27,17 @@ fn key_is_taken(network: &Network, key: u32) -> bool
 fn some_stands(network: &Network) -> bool
     ensures { result ≡ some_stands network.now }
 {
-    let nodes = network.declared();
-    nodes.iter().any(|node| node.status != Status::Out)
+    network
+        .declared()
+        .iter()
+        .any(|node| node.status != Status::Out)
 }
 
 fn notice_waits(network: &Network, node: u8) -> bool
     ensures { result ≡ notice_waits network.now node }
 {
-    let messages = network.queue();
-    messages
+    network
+        .queue()
         .iter()
         .any(|message| message.kind.is_notice() && message.to == node)
 }
@@ -53,17 +49,17 @@ pub fn find(network: &Network, order: Order) -> Found
     match order {
         Order::Declare(key) => Found {
             taken: key_is_taken(network, key),
-            ..NOTHING
+            ..Found::default()
         },
         Order::Create(node) => Found {
             standing: some_stands(network),
             notice: notice_waits(network, node),
-            ..NOTHING
+            ..Found::default()
         },
         Order::Join { node, .. } => Found {
             notice: notice_waits(network, node),
-            ..NOTHING
+            ..Found::default()
         },
-        Order::Leave(_) => NOTHING,
+        Order::Leave(_) => Found::default(),
     }
 }

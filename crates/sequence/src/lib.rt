@@ -4,6 +4,7 @@
 ghost use Rattle.std.specs.Prelude.{◌≡◌};
 ghost use Rattle.sequence.specs.Sequence.{first_seq, same, newer, has_next, capped_next};
 
+// Compared by the functions below, and not by `==` and `<`: a number is to become a pair.
 pub type Number = u16;
 
 // The first number, for constants: a constant's value can call no function.

@@ -30,14 +30,18 @@ pub struct Asked {
     pub after: usize,
 }
 
-fn task_of(asked: Record) -> Result<Task, Refusal>
-    ensures { result ≡ task_of asked }
-{
-    match asked {
-        Record::Call(call) => Ok(Task::Call(call)),
-        Record::Declare(serial) => Ok(Task::Call(Call::Order(Order::Declare(serial?)))),
-        Record::Owner { start, serial } => Ok(Task::Owner { start, serial }),
-        Record::Drain(budget) => Ok(Task::Drain(budget)),
+impl TryFrom<Record> for Task {
+    type Error = Refusal;
+
+    ghost try_from_gives = { λ asked task. task ≡ task_of asked };
+
+    fn try_from(asked: Record) -> Result<Self, Refusal> {
+        match asked {
+            Record::Call(call) => Ok(Task::Call(call)),
+            Record::Declare(serial) => Ok(Task::Call(Call::Order(Order::Declare(serial?)))),
+            Record::Owner { start, serial } => Ok(Task::Owner { start, serial }),
+            Record::Drain(budget) => Ok(Task::Drain(budget)),
+        }
     }
 }
 
@@ -48,7 +52,7 @@ pub fn ask(script: &[u8], at: usize) -> Asked
 {
     match script::read(script, at) {
         Ok(Some(next)) => Asked {
-            task: task_of(next.record),
+            task: Task::try_from(next.record),
             after: next.after,
         },
         Ok(None) => Asked {

@@ -8,7 +8,8 @@ ghost use Rattle.text.specs.Pages.{appended};
 
 use std::marker::Model;
 
-// At most N bytes of text. Clauses see the bytes that were appended.
+// At most N bytes of text. Clauses see the bytes that were appended. No `ArrayVec` of the kit: with one
+// inside a record costs 5 to 12 instructions more.
 #[derive(Drop)]
 pub struct Page<const N: usize> {
     bytes: [u8; N],

@@ -10,4 +10,4 @@ pub returns-then-has_room-clause-text_after : goal.returns-then-has_room-clause-
 unfolding last_line
 returns-then-has_room-clause-text_after g c =
     let room = leb-true _ _ (sym c.has_room.ensures ∙ c.if-has_room.true) in
-    c.append.ensures ∙ rw c.put_pair.ensures.text_after (line_ended _ _ _ room (omega (arith, c.put_pair.ensures.short)))
+    c.append.ensures ∙ rw (c.put_pair.ensures.text_after, c.from.ensures) (line_ended _ _ _ room (omega (arith, rw c.from.ensures at c.put_pair.ensures.short)))

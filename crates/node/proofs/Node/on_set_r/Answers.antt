@@ -1,4 +1,4 @@
--- `node::set_r::on_set_r` meets its contract: the branches are those of the definition, and a join
+-- `node::Node::on_set_r` meets its contract: the branches are those of the definition, and a join
 -- is granted only where the capped number is the next one. Assumes nothing.
 use mathlib.Core.Path.{◌∙◌, sym, ap}
 use borrow.Author.Tests.{eq-eqb}
@@ -6,7 +6,7 @@ use Rattle.node.specs.Actions.{granting, relinked, set_l, set_r_ack}
 use Rattle.sequence.specs.Sequence.{capped_next}
 use Rattle.sequence.proofs.Laws.{capped-next}
 use Rattle.node.proofs.ActionLaws.{granted}
-use Rattle.node.proofs.set_r.on_set_r.Goals as goal
+use Rattle.node.proofs.Node.on_set_r.Goals as goal
 
 pub returns-then-new-sender : goal.returns-then-new-sender
 returns-then-new-sender c =
@@ -16,4 +16,4 @@ returns-then-new-sender c =
     let e = eq-eqb _ _ c.if-new-sender.true in
     let room = capped-next _ ((granted _ _ _ _ g).room e) in
     simp (g, e)
-    (λ i. granting (relinked u.node u.new u.number) (set_l u.me (c.unwrap_or.ensures i) u.sender ((next ∙ room) i)) (set_r_ack u.me u.sender (next i)))
+    (λ i. granting (relinked u.self u.new u.number) (set_l u.me (c.unwrap_or.ensures i) u.sender ((next ∙ room) i)) (set_r_ack u.me u.sender (next i)))
