@@ -16,6 +16,7 @@ fn place_node(network: &mut Network, number: u8, node: Node)
     network.nodes[number as usize] = node;
 }
 
+// A place behind the count, so that a slice of the nodes that are there would not do.
 fn add_node(network: &mut Network, node: Node)
     requires { network.old.count < 32 }
     ensures { network.new ≡ added network.old node }
@@ -72,6 +73,7 @@ fn has_room_after(place: u8, waiting: u8, posts: Posts) -> bool
 }
 
 // A change carried out; one that finds no room is none.
+#[inline(always)]
 #[tactic(auto, unfolding(crate::specs::Changes::committed))]
 pub fn commit(network: &mut Network, change: Change)
     ensures { network.new ≡ committed network.old (written change) }

@@ -30,7 +30,8 @@ pub enum Change {
     },
 }
 
-// Where an order looks: at three nodes. What it does not name is 0.
+// Where an order looks: at three nodes. What it does not name is 0, and not an `Option`: a node is
+// read for each, and no rule of such an order looks at it.
 #[derive(Clone, Copy)]
 pub struct Spots {
     pub node: u8,

@@ -6,6 +6,7 @@ use crate::{Arrival, Sight, Spots};
 use network::Network;
 
 // What stands at some spots.
+#[inline(always)]
 pub fn look(network: &Network, spots: Spots) -> Sight
     ensures { result ≡ sight_of network.now spots }
 {
@@ -19,6 +20,7 @@ pub fn look(network: &Network, spots: Spots) -> Sight
 }
 
 // The message at a place, and the node that it is for.
+#[inline(always)]
 pub fn meet(network: &Network, place: u8) -> Arrival
     ensures { result ≡ arrival_of network.now place }
 {

@@ -54,6 +54,7 @@ fn report_of(outcome: Outcome, posts: Posts) -> Report
 }
 
 // The step of a node, to be written down unless the node refuses it.
+#[inline(always)]
 pub fn stepping(number: u8, step: Step) -> Result<Decision, Refusal>
     ensures { decided result ≡ unless_refused (after_step (coded step.verdict) None) turned_away (stepping number (effect step)) }
 {
@@ -69,6 +70,7 @@ pub fn stepping(number: u8, step: Step) -> Result<Decision, Refusal>
 }
 
 // The same of a step on the message at a place.
+#[inline(always)]
 pub fn delivering(place: u8, number: u8, step: Step) -> Result<Decision, Refusal>
     ensures { decided result ≡ unless_refused (after_step (coded step.verdict) None) turned_away (delivering place number (effect step)) }
 {
@@ -98,6 +100,7 @@ pub fn declared(key: u32) -> Node
     }
 }
 
+#[inline(always)]
 pub fn adding(number: u8, key: u32) -> Decision
     ensures { decided (Ok result) ≡ adding number key }
 {
@@ -110,6 +113,7 @@ pub fn adding(number: u8, key: u32) -> Decision
     }
 }
 
+#[inline(always)]
 pub fn check_room(waiting: u8, posts: Posts) -> Result<(), Refusal>
     ensures { checked result ≡ first (room_tests waiting (listed posts)) }
 {

@@ -21,6 +21,7 @@ pub(crate) fn sizes(network: &Network)
     let _node = network.nodes[0];
 }
 
+#[inline(always)]
 pub(crate) fn act(network: &mut Network, call: Call) -> Report
     requires { well_formed network.old ≡ true }
     ensures { reported network.new result ≡ counted (apply_of network.old call) }
@@ -67,7 +68,8 @@ pub(crate) fn execute(network: &mut Network, task: Result<Task, Refusal>) -> Rep
     requires { Allowed network.old task }
     ensures { reported network.new result ≡ counted (done_on network.old task) }
 {
-    // Two matches: where one goes by cases of the `Ok`, a proof is not told which case the task is.
+    // A task is data that a script names, and no step that a caller hands in. Two matches: where one
+    // goes by cases of the `Ok`, a proof is not told which case the task is.
     let task = match task {
         Ok(task) => task,
         Err(refusal) => return Report::refused(refusal),

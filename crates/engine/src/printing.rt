@@ -19,7 +19,7 @@ pub const SIZE_LIMIT: usize = 65_536;
 // How many bytes the text of a printout has room for.
 pub const TEXT_SIZE: usize = 1_048_576;
 
-// What a run keeps from record to record.
+// What a run keeps from record to record. What the program keeps beside the network is to stand here.
 #[derive(Clone, Copy)]
 struct Kept {
     network: Network,

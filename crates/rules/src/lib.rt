@@ -18,6 +18,7 @@ use refusal::{Refusal, refuse_if};
 use searches::Found;
 
 // R6.5.
+#[inline(always)]
 fn decide_declare(key: u32, count: u8, taken: bool) -> Result<Decision, Refusal>
     ensures { decided result ≡ declare_decision key count taken }
 {
@@ -28,6 +29,7 @@ fn decide_declare(key: u32, count: u8, taken: bool) -> Result<Decision, Refusal>
 }
 
 // R6.6.
+#[inline(always)]
 fn decide_create(number: u8, count: u8, node: Node, found: Found) -> Result<Decision, Refusal>
     ensures { decided result ≡ create_decision number count node found }
 {
@@ -38,6 +40,7 @@ fn decide_create(number: u8, count: u8, node: Node, found: Found) -> Result<Deci
 }
 
 // R6.7: the refusals of the node's own step come between those of the network.
+#[inline(always)]
 fn decide_join(
     number: u8,
     left: u8,
@@ -60,6 +63,7 @@ fn decide_join(
 }
 
 // R6.8.
+#[inline(always)]
 fn decide_leave(number: u8, count: u8, waiting: u8, node: Node) -> Result<Decision, Refusal>
     ensures { decided result ≡ leave_decision number count waiting node }
 {
@@ -71,6 +75,7 @@ fn decide_leave(number: u8, count: u8, waiting: u8, node: Node) -> Result<Decisi
 }
 
 // An order, from what it looks at.
+#[inline(always)]
 pub fn decide_order(order: Order, sight: Sight, found: Found) -> Result<Decision, Refusal>
     ensures { decided result ≡ order_decision order sight found }
 {
@@ -89,6 +94,7 @@ pub fn decide_order(order: Order, sight: Sight, found: Found) -> Result<Decision
 }
 
 // A delivery, from what it looks at (R6.9).
+#[inline(always)]
 pub fn decide_delivery(place: u8, arrival: Arrival) -> Result<Decision, Refusal>
     ensures { decided result ≡ delivery_decision place arrival }
 {

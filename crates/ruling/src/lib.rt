@@ -17,6 +17,7 @@ mod places;
 pub use places::lowest;
 
 // What a call comes to, from what it looks at.
+#[inline(always)]
 #[tactic(auto, unfolding(crate::specs::Rulings::decision_on))]
 pub fn decide(network: &Network, call: Call) -> Result<Decision, Refusal>
     ensures { decided result ≡ decision_on network.now call }

@@ -117,6 +117,7 @@ fn four(fields: &[u8], i: usize) -> [u8; 4]
     ]
 }
 
+#[inline(always)]
 fn record_of(mark: Mark, fields: &[u8]) -> Record
     ensures { result ≡ record_of mark fields.now }
 {
@@ -144,6 +145,7 @@ fn record_of(mark: Mark, fields: &[u8]) -> Record
 }
 
 // The record at a cursor, or none at the end; a refusal stops the reading.
+#[inline(always)]
 #[tactic(auto, unfolding(crate::specs::Script::read_at))]
 pub fn read(script: &[u8], at: usize) -> Result<Option<Next>, Refusal>
     ensures { reading result ≡ read_at script.now at }

@@ -10,7 +10,8 @@ use parts::Status;
 use protocol::Order;
 
 // What is found: whether a node has the key that is declared, whether some node is not out, and
-// whether a notice to a node waits. What an order does not ask is false.
+// whether a notice to a node waits. What an order does not ask is false. Three answers side by side:
+// none is the value of another.
 #[derive(Clone, Copy, Debug, Default, PartialEq, Eq)]
 pub struct Found {
     pub taken: bool,
@@ -33,6 +34,7 @@ fn some_stands(network: &Network) -> bool
         .any(|node| node.status != Status::Out)
 }
 
+// Not one function with `ack_waits` of `members`, as said there.
 fn notice_waits(network: &Network, node: u8) -> bool
     ensures { result ≡ notice_waits network.now node }
 {

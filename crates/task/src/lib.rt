@@ -47,6 +47,7 @@ impl TryFrom<Record> for Task {
 
 // What is asked at a cursor of a script; at the end, where nobody asks, it is as if a record were
 // cut short.
+#[inline(always)]
 pub fn ask(script: &[u8], at: usize) -> Asked
     ensures { Asks (length script.now) (read_at script.now at) result }
 {
