@@ -1,8 +1,8 @@
-// A change carried out where a network lies.
-ghost use Rattle.std.specs.Prelude.{◌≡◌, ◌&&◌, cond, Some, None, ◌+◌, ◌-◌, ◌<◌, ◌≤◌, length, leb, ltb};
+//! A change carried out where a network lies.
+ghost use Rattle.std.specs.Prelude.{◌≡◌, ◌&&◌, ◌+◌, ◌-◌, ◌<◌, ◌≤◌, length, leb, ltb};
 ghost use Rattle.parts.specs.Posts.{posted as listed};
 ghost use Rattle.protocol.specs.State.{queue_limit};
-ghost use Rattle.access.specs.Changes.{placed, added, closed, all_posted, written, fits, committed};
+ghost use Rattle.access.specs.Changes.{placed, added, closed, all_posted, written, committed};
 
 use crate::Change;
 use network::{CAPACITY, Network, QUEUE_LIMIT, VACANT_MESSAGE};
@@ -25,16 +25,18 @@ fn add_node(network: &mut Network, node: Node)
     network.count += 1;
 }
 
-// R6.9: the message at a place is taken, and the later ones move up. By a loop, since a call of
-// `rotate_left` costs every call on a network 20 instructions and more.
+// R6.9: the message at a place is taken, and the later ones move up. Here and in the other three,
+// what finds room stands in the `requires`: it is tested once, by `commit`, for what all four
+// write.
 fn take_message(network: &mut Network, place: u8)
     requires { (place < network.old.waiting) × (network.old.waiting ≤ 64) }
     ensures { network.new ≡ closed network.old place }
 {
+    let place = place as usize;
     let last = network.waiting - 1;
-    for i in place as usize..last as usize {
-        network.messages[i] = network.messages[i + 1];
-    }
+    network
+        .messages
+        .copy_within(place + 1..network.waiting as usize, place);
     network.messages[last as usize] = VACANT_MESSAGE;
     network.waiting = last;
 }
@@ -58,7 +60,7 @@ fn post(network: &mut Network, posts: Posts)
     network.waiting += posts.count();
 }
 
-// Whether a step's posts find room after so many messages.
+/// Whether a step's posts find room after so many messages.
 pub fn has_room(waiting: u8, posts: Posts) -> bool
     ensures { result ≡ leb (waiting + length (listed posts)) queue_limit }
 {
@@ -72,7 +74,7 @@ fn has_room_after(place: u8, waiting: u8, posts: Posts) -> bool
     place < waiting && waiting <= QUEUE_LIMIT && has_room(waiting - 1, posts)
 }
 
-// A change carried out; one that finds no room is none.
+/// A change carried out; one that finds no room is none.
 #[inline(always)]
 #[tactic(auto, unfolding(crate::specs::Changes::committed))]
 pub fn commit(network: &mut Network, change: Change)

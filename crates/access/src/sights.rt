@@ -1,11 +1,11 @@
-// What the rules of an order or a delivery look at.
+//! What the rules of an order or a delivery look at.
 ghost use Rattle.std.specs.Prelude.{◌≡◌};
 ghost use Rattle.access.specs.Sights.{sight_of, arrival_of};
 
 use crate::{Arrival, Sight, Spots};
 use network::Network;
 
-// What stands at some spots.
+/// What stands at some spots.
 #[inline(always)]
 pub fn look(network: &Network, spots: Spots) -> Sight
     ensures { result ≡ sight_of network.now spots }
@@ -19,7 +19,7 @@ pub fn look(network: &Network, spots: Spots) -> Sight
     }
 }
 
-// The message at a place, and the node that it is for.
+/// The message at a place, and the node that it is for.
 #[inline(always)]
 pub fn meet(network: &Network, place: u8) -> Arrival
     ensures { result ≡ arrival_of network.now place }

@@ -1,8 +1,8 @@
-// Numbers by chance. Throws follow each other by xorshift on 64 bits; a throw yields as many numbers
-// as one record takes, each for a purpose of its own.
-ghost use Rattle.std.specs.Prelude.{◌-◌, ◌≤◌};
+//! Numbers by chance. Throws follow each other by xorshift on 64 bits; a throw yields as many
+//! numbers as one record takes, each for a purpose of its own.
+ghost use Rattle.std.specs.Prelude.{◌-◌, ◌≤◌, ◌<◌, ◌^◌};
 
-// What a number of a throw is for, as it is mixed into the throw.
+/// What a number of a throw is for, as it is mixed into the throw.
 #[derive(Clone, Copy)]
 pub(crate) enum Purpose {
     Temper = 1,
@@ -56,17 +56,26 @@ fn mixed(number: u64) -> u64 {
 pub(crate) struct Throw(u64);
 
 impl Throw {
-    // The throw that a script begins with.
+    /// The throw that a script begins with.
     pub(crate) fn of_script(ordinal: u32) -> Throw {
         Throw(mixed(u64::from(ordinal % 65_536) * 173_961_102_589_770 + 1))
     }
 
-    // Another throw, which depends on this one.
+    /// The throw that follows.
+    pub(crate) fn following(self) -> Throw {
+        let mut x = self.0;
+        x ^= x << 13;
+        x ^= x >> 7;
+        x ^= x << 17;
+        Throw(x)
+    }
+
+    /// Another throw, which depends on this one.
     pub(crate) fn again(self) -> Throw {
         Throw(mixed(self.0))
     }
 
-    // The number below a limit that the throw has for a purpose; 0 where there is none.
+    /// The number below a limit that the throw has for a purpose; 0 where there is none.
     pub(crate) fn below(self, purpose: Purpose, limit: u32) -> u32
         ensures { result ≤ limit - 1 }
     {
@@ -77,39 +86,23 @@ impl Throw {
         (x >> 8).checked_rem(u64::from(limit)).unwrap_or(0) as u32
     }
 
+    /// An element of a list.
+    pub(crate) fn one<T: Copy, const N: usize>(self, purpose: Purpose, list: [T; N]) -> T
+        requires { (0 < N) × (N < 2 ^ 32) }
+    {
+        list[self.below(purpose, N as u32) as usize]
+    }
+
     pub(crate) fn byte_below(self, purpose: Purpose, limit: u8) -> u8 {
         self.below(purpose, u32::from(limit)) as u8
     }
 
-    // Whether it comes to one case of so many.
+    /// Whether it comes to one case of so many.
     pub(crate) fn one_of(self, purpose: Purpose, cases: u32) -> bool {
         self.below(purpose, cases) == 0
     }
 
     pub(crate) fn is_multiple_of(self, number: u64) -> bool {
-        self.0.checked_rem(number) == Some(0)
-    }
-}
-
-// The throws that follow a throw, without end.
-#[derive(Drop)]
-pub(crate) struct Throws(Throw);
-
-impl Throws {
-    pub(crate) fn after(throw: Throw) -> Throws {
-        Throws(throw)
-    }
-}
-
-impl Iterator for Throws {
-    type Item = Throw;
-
-    fn next(&mut self) -> Option<Throw> {
-        let mut x = self.0.0;
-        x ^= x << 13;
-        x ^= x >> 7;
-        x ^= x << 17;
-        self.0 = Throw(x);
-        Some(self.0)
+        self.0.is_multiple_of(number)
     }
 }

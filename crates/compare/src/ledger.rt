@@ -1,4 +1,4 @@
-// What came of all scripts: how often each mark had each answer, and whether any script differed.
+//! What came of all scripts: how often each mark had each answer, and whether any script differed.
 use arrayvec::ArrayVec;
 use model::answer::{Answer, Outcome, Refusal};
 use model::network::Network;
@@ -6,7 +6,8 @@ use model::reading::Line;
 use model::script::Mark;
 use std::fmt;
 
-// What stands for a record: its mark, if it has one.
+/// What stands for a record: its mark, if it has one. No `Option`: what has no mark comes last, and
+/// `None` would be first.
 #[derive(Clone, Copy, Default, Eq, Ord, PartialEq, PartialOrd)]
 pub(crate) enum Label {
     Marked(Mark),
@@ -29,8 +30,9 @@ impl fmt::Display for Label {
     }
 }
 
-// The answer under which a record is counted. An owner that is found by a hop or more is counted
-// apart.
+/// The answer under which a record is counted. An owner that is found by a hop or more is counted
+/// apart. No `Result`: refusals come first in the lines, and an `Err` would come last. A default is
+// what fills the places of an `ArrayVec` that are not used.
 #[derive(Clone, Copy, Default, Eq, Ord, PartialEq, PartialOrd)]
 pub(crate) enum Came {
     Refused(Refusal),
@@ -75,16 +77,16 @@ struct Tally {
     times: usize,
 }
 
-// Where a script differs first, counted from 1.
+/// Where a script differs first, counted from 1.
 #[derive(Clone, Copy)]
 pub(crate) struct Difference {
     pub(crate) script: u32,
     pub(crate) byte: usize,
 }
 
-// The tallies stand in the order of their labels, and of answers below each. There is room for every
-// answer below every label.
-#[derive(Drop)]
+/// The tallies stand in the order of their labels, and of answers below each: a map wants the heap.
+/// There is room for every answer below every label.
+#[derive(Default, Drop)]
 pub(crate) struct Ledger {
     tallies: ArrayVec<Tally, 350>,
     with_full_queue: usize,
@@ -97,19 +99,6 @@ pub(crate) struct Ledger {
 }
 
 impl Ledger {
-    pub(crate) fn new() -> Self {
-        Ledger {
-            tallies: ArrayVec::new(),
-            with_full_queue: 0,
-            records: 0,
-            scripts: 0,
-            printed: 0,
-            passed_over: 0,
-            differing: 0,
-            first_difference: None,
-        }
-    }
-
     pub(crate) fn count(&mut self, label: Label, came: Came) {
         let place = self
             .tallies
@@ -133,7 +122,7 @@ impl Ledger {
         }
     }
 
-    // Enters what came of a record, and the network that it left.
+    /// Enters what came of a record, and the network that it left.
     pub(crate) fn enter_line(&mut self, line: Line, network: &Network) {
         self.count(line.mark.into(), line.reply.into());
         self.records = self.records.saturating_add(1);
@@ -142,7 +131,7 @@ impl Ledger {
         }
     }
 
-    // Enters a script that both have printed.
+    /// Enters a script that both have printed.
     pub(crate) fn enter_script(
         &mut self,
         printed: usize,

@@ -1,20 +1,19 @@
-// A script by chance, which the model plays as it grows.
-use crate::chance::{Purpose, Throw, Throws};
-use crate::ledger::{Came, Label, Ledger};
+//! A script by chance, which the model plays as it grows.
+use crate::chance::{Purpose, Throw};
+use crate::ledger::{Came, Difference, Label, Ledger};
 use crate::steering::Draw;
 use arrayvec::ArrayVec;
 use model::answer::Refusal;
-use model::printing::LONGEST;
+use model::printing::{LONGEST, first_difference};
 use model::reading::Player;
 use std::iter;
-
-pub(crate) type Script = ArrayVec<u8, 100_000>;
+use text::Page;
 
 // More than a script has, since each has three bytes or more.
 const MOST_RECORDS: usize = 30_000;
 
-// How long a script is at most: the first few are at the limits, and the others short, or longer, or
-// a few of them long.
+// How long a script is at most: the first few are at the limits, and the others short, or longer,
+// or a few of them long.
 fn most_bytes(ordinal: u32, mood: Throw) -> usize {
     let some = mood.below(Purpose::Length, 30_000) as usize;
     match ordinal {
@@ -30,8 +29,8 @@ fn most_bytes(ordinal: u32, mood: Throw) -> usize {
     }
 }
 
-// Where a script ends that has no room for another record, or no use for one: in half of the scripts
-// within that record.
+// Where a script ends that has no room for another record, or no use for one: in half of the
+// scripts within that record.
 fn cut(length: usize, most: usize, mood: Throw) -> usize {
     let is_close = most.saturating_sub(length) < 7;
     if is_close && mood.is_multiple_of(2) {
@@ -41,56 +40,94 @@ fn cut(length: usize, most: usize, mood: Throw) -> usize {
     }
 }
 
-// Plays a part of a script.
-fn play(player: &mut Player, part: &[u8], ledger: &mut Ledger) {
-    for byte in part {
-        if let Some(line) = player.feed(*byte) {
-            ledger.enter_line(line, player.network());
-        }
-    }
+/// The script that is made, the model that plays it, and what came of all scripts so far.
+#[derive(Drop)]
+pub(crate) struct Match {
+    script: ArrayVec<u8, 100_000>,
+    player: Player,
+    ledger: Ledger,
 }
 
-// Makes a script of at most so many bytes.
-fn grow(player: &mut Player, script: &mut Script, most: usize, mood: Throw, ledger: &mut Ledger) {
-    for throw in Throws::after(mood).take(MOST_RECORDS) {
-        let length = script.len();
-        let network = player.network();
-        let is_stuck = network.is_stuck();
-        let piece = Draw {
-            network,
-            mood,
-            throw,
+impl Match {
+    pub(crate) fn new() -> Self {
+        Match {
+            script: ArrayVec::new(),
+            player: Player::new(),
+            ledger: Ledger::default(),
         }
-        .piece();
-        let has_room = piece.append_to(script).is_ok() && script.len() <= most;
-        let is_last = is_stuck || !has_room;
-        if is_last {
-            script.truncate(cut(length, most, mood));
+    }
+
+    pub(crate) fn ledger(&self) -> &Ledger {
+        &self.ledger
+    }
+
+    // Plays the script from a place on.
+    fn play_from(&mut self, place: usize) {
+        for byte in self.script.iter().skip(place) {
+            if let Some(line) = self.player.feed(*byte) {
+                self.ledger.enter_line(line, self.player.network());
+            }
         }
-        if let Some(part) = script.as_slice().get(length..) {
-            play(player, part, ledger);
+    }
+
+    // Makes a script of at most so many bytes.
+    fn grow(&mut self, most: usize, mood: Throw) {
+        let throws = iter::successors(Some(mood), |throw| Some(throw.following()));
+        for throw in throws.skip(1).take(MOST_RECORDS) {
+            let length = self.script.len();
+            let network = self.player.network();
+            let is_stuck = network.is_stuck();
+            let piece = Draw {
+                network,
+                mood,
+                throw,
+            }
+            .piece();
+            let has_room = piece.append_to(&mut self.script).is_ok() && self.script.len() <= most;
+            let is_last = is_stuck || !has_room;
+            if is_last {
+                self.script.truncate(cut(length, most, mood));
+            }
+            self.play_from(length);
+            if is_last {
+                return;
+            }
         }
-        if is_last {
+    }
+
+    // Makes the script of a number, and enters what comes of its records.
+    fn make(&mut self, ordinal: u32) {
+        let mood = Throw::of_script(ordinal);
+        let most = most_bytes(ordinal, mood);
+        self.script.clear();
+        self.player = Player::new();
+        if most > LONGEST {
+            let _ = self.script.extend(iter::repeat_n(0, most));
+            self.ledger
+                .count(Label::Unmarked, Came::Refused(Refusal::ScriptTooLong));
             return;
         }
+        self.grow(most, mood);
+        if let Some(line) = self.player.end() {
+            self.ledger.enter_line(line, self.player.network());
+        }
     }
-}
 
-// Makes the script of a number, and enters what comes of its records. The answer is how many places
-// its drains passed over.
-pub(crate) fn make(ordinal: u32, script: &mut Script, ledger: &mut Ledger) -> usize {
-    let mood = Throw::of_script(ordinal);
-    let most = most_bytes(ordinal, mood);
-    script.clear();
-    if most > LONGEST {
-        let _ = script.extend(iter::repeat_n(0, most));
-        ledger.count(Label::Unmarked, Came::Refused(Refusal::ScriptTooLong));
-        return 0;
+    /// Makes the script of a number, and runs it through both.
+    pub(crate) fn turn(&mut self, ordinal: u32) {
+        self.make(ordinal);
+        let script = self.script.as_slice();
+        let mut printout = Page::new();
+        engine::printout(script, &mut printout);
+        let theirs = printout.as_bytes();
+        let difference = first_difference(script, theirs).map(|byte| Difference {
+            script: ordinal,
+            byte,
+        });
+        self.ledger.enter_script(
+            theirs.len(),
+            self.player.network().passed_over(),
+            difference,
+        );
     }
-    let mut player = Player::new();
-    grow(&mut player, script, most, mood, ledger);
-    if let Some(line) = player.end() {
-        ledger.enter_line(line, player.network());
-    }
-    player.network().passed_over()
 }

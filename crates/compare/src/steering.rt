@@ -1,6 +1,6 @@
-// Scripts by chance. Records are drawn until one comes whose answer, as the network of the model is
-// by then, is welcome; so that orders of every outcome come in good number. A script has a mood, its
-// own throw, which gives its temper and how many nodes are wanted.
+//! Scripts by chance. Records are drawn until one comes whose answer, as the network of the model
+//! is by then, is welcome; so that orders of every outcome come in good number. A script has a
+//! mood, its own throw, which gives its temper and how many nodes are wanted.
 use crate::chance::{Purpose, Throw};
 use crate::ledger::Came;
 use arrayvec::{ArrayVec, CapacityError};
@@ -28,8 +28,11 @@ const NO_MARKS: [[u8; 2]; 4] = [*b"--", *b"bc", *b"Jn", *b"XX"];
 // How many records are drawn before a question takes their place.
 const DRAWS: usize = 12;
 
-// Few nodes and many orders; many nodes; notices left lying until the network is full; drained often;
-// anything; rings of one.
+// How many numbers of four bytes are too large for a serial.
+const TOO_LARGE: u32 = 4_194_967_296;
+
+// Few nodes and many orders; many nodes; notices left lying until the network is full; drained
+// often; anything; rings of one.
 #[derive(Clone, Copy, Eq, PartialEq)]
 enum Temper {
     Few,
@@ -51,10 +54,11 @@ const TEMPERS: [Temper; 6] = [
 
 impl Temper {
     fn of(mood: Throw) -> Temper {
-        TEMPERS[mood.below(Purpose::Temper, 6) as usize]
+        mood.one(Purpose::Temper, TEMPERS)
     }
 
-    // For each of the marks a share of a hundred.
+    // For each of the marks a share of a hundred, in the order of `MARKS`: with its mark beside
+    // each number this would no longer read as a table.
     fn shares(self) -> [u32; 9] {
         match self {
             Temper::Few => [1, 1, 3, 25, 14, 47, 3, 3, 3],
@@ -89,7 +93,7 @@ fn welcome_share(foreseen: Option<Came>) -> u32 {
     }
 }
 
-// What stands in a script: a record, or two bytes that are no mark and one more.
+/// What stands in a script: a record, or two bytes that are no mark and one more.
 #[derive(Clone, Copy)]
 pub(crate) enum Piece {
     Record(Record),
@@ -108,7 +112,7 @@ impl Piece {
     }
 }
 
-// What a record is drawn from: the network as it is, the script's mood and a throw.
+/// What a record is drawn from: the network as it is, the script's mood and a throw.
 #[derive(Clone, Copy)]
 pub(crate) struct Draw<'a> {
     pub(crate) network: &'a Network,
@@ -132,7 +136,8 @@ impl Draw<'_> {
         self.network.declared_nodes() < self.wanted_nodes()
     }
 
-    // Before notices are left lying, the nodes wanted are declared and the network is drained often.
+    // Before notices are left lying, the nodes wanted are declared and the network is drained
+    // often.
     fn temper(&self) -> Temper {
         match Temper::of(self.mood) {
             Temper::Hoarding if self.is_early() => Temper::Draining,
@@ -183,8 +188,8 @@ impl Draw<'_> {
         }
     }
 
-    // A join before the node that a walk from some node finds to own the key, and in a few cases with
-    // any node on the right.
+    // A join before the node that a walk from some node finds to own the key, and in a few cases
+    // with any node on the right.
     fn join(&self) -> Record {
         let network = self.network;
         let node = self.any_node(Purpose::Joiner);
@@ -207,12 +212,11 @@ impl Draw<'_> {
         let waiting = self.network.waiting();
         let some = self.throw.byte_below(Purpose::Place, waiting);
         if self.temper() == Temper::Hoarding {
-            return (some.saturating_add(1)..waiting)
-                .find(|place| {
-                    let message = self.network.messages().get(usize::from(*place));
-                    message.is_some_and(|message| message.kind != Kind::SetL)
-                })
-                .unwrap_or(waiting);
+            return (0..waiting)
+                .zip(self.network.messages())
+                .skip(usize::from(some) + 1)
+                .find(|(_, message)| message.kind != Kind::SetL)
+                .map_or(waiting, |(place, _)| place);
         }
         match self.throw.below(Purpose::PlaceKind, 16) {
             0 => waiting,
@@ -309,21 +313,17 @@ impl Draw<'_> {
         (self.throw.below(Purpose::Welcome, 100) < self.share(record)).then_some(record)
     }
 
-    // A serial with a fault: a digit above 9 where it is packed; where it is binary too large, by one
-    // or by more, up to all that four bytes hold.
+    // A serial with a fault: a digit above 9 where it is packed; where it is binary too large, by
+    // one or by more, up to all that four bytes hold.
     fn faulty_packed(&self) -> Serial {
-        let digit = self.throw.below(Purpose::SerialFault, 4_194_967_296) % 8;
-        match Serial::packed(self.serial()) {
-            Serial::Packed(bytes) => {
-                let faulty = u32::from_le_bytes(bytes) | 10 << (digit * 4);
-                Serial::Packed(faulty.to_le_bytes())
-            }
-            binary => binary,
-        }
+        let digit = self.throw.below(Purpose::SerialFault, TOO_LARGE) % 8;
+        let (Serial::Packed(bytes) | Serial::Binary(bytes)) = Serial::packed(self.serial());
+        let faulty = u32::from_le_bytes(bytes) | 10 << (digit * 4);
+        Serial::Packed(faulty.to_le_bytes())
     }
 
     fn faulty_binary(&self) -> Serial {
-        let more = self.throw.below(Purpose::SerialFault, 4_194_967_296);
+        let more = self.throw.below(Purpose::SerialFault, TOO_LARGE);
         Serial::binary(match self.throw.below(Purpose::SerialFaultKind, 4) {
             0 => 100_000_000,
             1 => u32::MAX,
@@ -346,7 +346,7 @@ impl Draw<'_> {
     }
 
     fn no_mark(&self, byte: u8) -> Piece {
-        let [first, second] = NO_MARKS[self.throw.below(Purpose::FaultyField, 4) as usize];
+        let [first, second] = self.throw.one(Purpose::FaultyField, NO_MARKS);
         Piece::NoMark([first, second, byte])
     }
 
@@ -367,7 +367,7 @@ impl Draw<'_> {
         } else {
             some
         };
-        Piece::Record(match MARKS[throw.below(Purpose::FaultyMark, 9) as usize] {
+        Piece::Record(match throw.one(Purpose::FaultyMark, MARKS) {
             Mark::Bc => Record::Declare(self.faulty_packed()),
             Mark::Bn => Record::Declare(self.faulty_binary()),
             Mark::Cr => Record::Create { node: maybe },
@@ -404,7 +404,7 @@ impl Draw<'_> {
         self.network.is_full() && first.is_some_and(|message| message.kind == Kind::SetR)
     }
 
-    // What comes next in a script, for the network as it is.
+    /// What comes next in a script, for the network as it is.
     pub(crate) fn piece(&self) -> Piece {
         let throw = self.throw;
         if self.is_early() && throw.one_of(Purpose::EarlyDeclaration, 3) {

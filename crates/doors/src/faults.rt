@@ -1,12 +1,11 @@
-// A network that is well formed, the same with one thing wrong at a time, and one that is well
-// formed and no ring.
-use network::{CAPACITY, Network, QUEUE_LIMIT};
+//! A network that is well formed, the same with one thing wrong at a time, and one that is well
+//! formed and no ring.
+use network::Network;
 use node::Node;
 use parts::{Kind, Link, Message, Seq, Status};
 use protocol::{Call, Order};
 
-fn after(network: Network, calls: &[Call]) -> Network {
-    let mut network = network;
+fn after(mut network: Network, calls: &[Call]) -> Network {
     for call in calls {
         engine::act(&mut network, *call);
     }
@@ -22,7 +21,8 @@ fn two() -> Network {
     after(Network::empty(), &calls)
 }
 
-// Two nodes, of which the second one's join has been granted: a notice and an acknowledgement wait.
+/// Two nodes, of which the second one's join has been granted: a notice and an acknowledgement
+/// wait.
 pub(crate) fn sound() -> Network {
     let calls = [
         Call::Order(Order::Create(0)),
@@ -36,16 +36,16 @@ pub(crate) fn sound() -> Network {
     after(two(), &calls)
 }
 
-fn with_node(network: Network, place: u8, node: Node) -> Network {
-    let mut network = network;
-    network.nodes[(place % CAPACITY) as usize] = node;
+// The network with a change.
+fn with<F: FnOnce(&mut Network)>(mut network: Network, change: F) -> Network
+    requires { F.IsAlwaysCallable change }
+{
+    change(&mut network);
     network
 }
 
-fn with_message(network: Network, place: u8, sender: u8, to: u8, kind: Kind) -> Network {
-    let mut network = network;
-    network.messages[(place % QUEUE_LIMIT) as usize] = Message { sender, to, kind };
-    network
+fn message(sender: u8, to: u8, kind: Kind) -> Message {
+    Message { sender, to, kind }
 }
 
 fn linked(key: u32, left: Link, right: Link, rseq: Seq) -> Node {
@@ -61,34 +61,28 @@ fn linked(key: u32, left: Link, right: Link, rseq: Seq) -> Node {
 
 // Another node in the place of the first, which is in and has node 1 on its right.
 fn with_first(network: Network, key: u32, right: Link, rseq: Seq) -> Network {
-    with_node(network, 0, linked(key, Some(0), right, rseq))
+    with(network, |n| n.nodes[0] = linked(key, Some(0), right, rseq))
 }
 
-// R2.2: a node with a key of its own in each of the 32 places, or a message in each of the 64, and
-// the count given: at the limit nothing is wrong, and past it the count alone is.
-pub(crate) fn full_of_nodes(network: Network, count: u8) -> Network {
-    let mut network = network;
-    for place in 2..CAPACITY {
-        network.nodes[place as usize] = decision::declared(u32::from(place));
+/// R2.2: the network with so many nodes, each with a key of its own, and so many messages. At the
+/// limits nothing is wrong, and past one the count alone is.
+pub(crate) fn grown(mut network: Network, count: u8, waiting: u8) -> Network {
+    let declared = usize::from(network.count);
+    let nodes = network.nodes.iter_mut().enumerate();
+    for (place, node) in nodes.take(usize::from(count)).skip(declared) {
+        *node = decision::declared(place as u32);
+    }
+    let queued = usize::from(network.waiting);
+    let messages = network.messages.iter_mut();
+    for one in messages.take(usize::from(waiting)).skip(queued) {
+        *one = message(0, 0, Kind::SetL { left: 1, number: 1 });
     }
     network.count = count;
-    network
-}
-
-pub(crate) fn full_of_messages(network: Network, waiting: u8) -> Network {
-    let mut network = network;
-    for message in &mut network.messages[2..] {
-        *message = Message {
-            sender: 0,
-            to: 0,
-            kind: Kind::SetL { left: 1, number: 1 },
-        };
-    }
     network.waiting = waiting;
     network
 }
 
-// One rule of well-formedness broken at a time, in what ways.
+/// The network with one rule of well-formedness broken at a time, and in what way.
 pub(crate) fn one_by_one(sound: Network) -> [(&'static str, Network); 14] {
     let notice = |left| Kind::SetL { left, number: 1 };
     let unasked = Kind::SetR {
@@ -97,15 +91,18 @@ pub(crate) fn one_by_one(sound: Network) -> [(&'static str, Network); 14] {
         number: 1,
     };
     [
-        ("R2.2, 33 nodes", full_of_nodes(sound, 33)),
-        ("R2.2, 65 messages", full_of_messages(sound, 65)),
+        ("R2.2, 33 nodes", grown(sound, 33, sound.waiting)),
+        ("R2.2, 65 messages", grown(sound, sound.count, 65)),
         (
             "R2.3, a node past the count",
-            with_node(sound, 2, decision::declared(3_000)),
+            with(sound, |n| n.nodes[2] = decision::declared(3_000)),
         ),
         (
             "R2.3, a message past the count",
-            with_message(sound, 63, 0, 0, Kind::SetRAck { number: 0 }),
+            with(
+                sound,
+                |n| n.messages[63] = message(0, 0, Kind::SetRAck { number: 0 }),
+            ),
         ),
         (
             "R2.4, the key of another node",
@@ -121,16 +118,16 @@ pub(crate) fn one_by_one(sound: Network) -> [(&'static str, Network); 14] {
         ),
         (
             "R2.5, a message to an undeclared node",
-            with_message(sound, 0, 0, 2, notice(1)),
+            with(sound, |n| n.messages[0] = message(0, 2, notice(1))),
         ),
         (
             "R2.5, a notice of an undeclared node",
-            with_message(sound, 0, 0, 0, notice(40)),
+            with(sound, |n| n.messages[0] = message(0, 0, notice(40))),
         ),
         // The node is in and has no links, and a notice to it waits.
         (
             "R2.6, a node that is in without links",
-            with_node(sound, 0, linked(1_000, None, None, Some(0))),
+            with(sound, |n| n.nodes[0] = linked(1_000, None, None, Some(0))),
         ),
         (
             "R2.6, a node that is in without a right number",
@@ -138,27 +135,30 @@ pub(crate) fn one_by_one(sound: Network) -> [(&'static str, Network); 14] {
         ),
         (
             "R2.7, two answers to one node",
-            with_message(sound, 0, 0, 1, Kind::SetRNak),
+            with(sound, |n| n.messages[0] = message(0, 1, Kind::SetRNak)),
         ),
         (
             "R2.7, an answer to a node that is in",
-            with_message(sound, 1, 0, 0, Kind::SetRAck { number: 1 }),
+            with(
+                sound,
+                |n| n.messages[1] = message(0, 0, Kind::SetRAck { number: 1 }),
+            ),
         ),
         (
             "R2.7, a request from a node that is in",
-            with_message(sound, 1, 0, 0, unasked),
+            with(sound, |n| n.messages[1] = message(0, 0, unasked)),
         ),
     ]
 }
 
-// R2.1: the first of two nodes is in, and its right link leads to the second, which is out and has
-// no links. Its right number is the last.
+/// R2.1: the first of two nodes is in, and its right link leads to the second, which is out and has
+/// no links. Its right number is the last.
 pub(crate) fn no_ring() -> Network {
     with_first(two(), 1_000, Some(1), Some(65_535))
 }
 
-// R2.1, R10.13: the right link of the first node, which is in, leads to the second, which is ins; a
-// request of the second to the first waits and is to be granted.
+/// R2.1, R10.13: the right link of the first node, which is in, leads to the second, which is ins;
+/// a request of the second to the first waits and is to be granted.
 pub(crate) fn no_ring_with_a_request() -> Network {
     let joiner = Node {
         status: Status::Ins,
@@ -170,7 +170,9 @@ pub(crate) fn no_ring_with_a_request() -> Network {
         number: 0,
     };
     let first = with_first(two(), 1_000, Some(1), Some(5));
-    let mut network = with_message(with_node(first, 1, joiner), 0, 1, 0, request);
-    network.waiting = 1;
-    network
+    with(first, |n| {
+        n.nodes[1] = joiner;
+        n.messages[0] = message(1, 0, request);
+        n.waiting = 1;
+    })
 }

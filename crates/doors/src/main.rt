@@ -1,8 +1,8 @@
-// Hands networks that are not well formed to every public function of the crate `engine`, its
-// doors, and counts those that answer 6 and hand the very network back (R6.2): a well-formed
-// network with one rule of section 2 broken at a time, and networks with fields made by chance.
-// Then what no script can show of well-formed networks: one that is no ring, and the word of the
-// inserted nodes.
+//! Hands networks that are not well formed to the doors of the crate `engine`, which are its public
+//! functions of a network, and counts those that answer 6 and hand the very network back (R6.2): a
+//! well-formed network with one rule of section 2 broken at a time, and networks with fields made
+//! by chance. Then what no script can show of well-formed networks: one that is no ring, and the
+//! word of the inserted nodes.
 #![tactic(auto)]
 
 mod faults;
@@ -10,9 +10,10 @@ mod random;
 
 use engine::Called;
 use network::Network;
-use protocol::{Answer, Call, Order, Reply};
+use protocol::{Call, Order, Reply};
 use random::Generator;
 use refusal::Refusal;
+use report::Report;
 use std::io;
 
 // Five calls and a drain by value, the same in place, and the two questions.
@@ -24,20 +25,14 @@ const SEED: u32 = 2_463_534_242;
 
 // A call or a drain that was refused 6, with nothing posted and the network as it was.
 fn is_unchanged(network: &Network, called: &Called) -> bool {
-    called.report.answer == Err(Refusal::Malformed)
-        && called.report.posted == 0
-        && called.network == *network
+    called.report == Report::refused(Refusal::Malformed) && called.network == *network
 }
 
-fn act(network: Network, call: Call) -> Called {
-    let mut network = network;
-    let report = engine::act(&mut network, call);
-    Called { network, report }
-}
-
-fn drain_in_place(network: Network, budget: u16) -> Called {
-    let mut network = network;
-    let report = engine::drain_in_place(&mut network, budget);
+// What is done to a network where it lies, of a copy.
+fn on_copy<F: FnOnce(&mut Network) -> Report>(mut network: Network, change: F) -> Called
+    requires { F.IsAlwaysCallable change }
+{
+    let report = change(&mut network);
     Called { network, report }
 }
 
@@ -58,24 +53,20 @@ fn refused(network: Network) -> usize {
         &network,
         &engine::apply(network, **call),
     ));
-    let in_place = calls
-        .iter()
-        .filter(|call| is_unchanged(&network, &act(network, **call)));
+    let in_place = calls.iter().filter(|call| is_unchanged(
+        &network,
+        &on_copy(network, |n| engine::act(n, **call)),
+    ));
     let others = [
         is_unchanged(&network, &engine::drain(network, 9)),
-        is_unchanged(&network, &drain_in_place(network, 9)),
+        is_unchanged(
+            &network,
+            &on_copy(network, |n| engine::drain_in_place(n, 9)),
+        ),
         engine::inserted(network) == Err(Refusal::Malformed),
         engine::owner(network, 0, 1_500) == Err(Refusal::Malformed),
     ];
     by_value.count() + in_place.count() + others.iter().filter(|held| **held).count()
-}
-
-// The number of the refusal in an answer; 0 where there is none.
-fn number_of(answer: Answer) -> u8 {
-    match answer {
-        Ok(_) => 0,
-        Err(refusal) => refusal.number(),
-    }
 }
 
 // What no script comes to: a well-formed network that is no ring, on which an owner is not found,
@@ -83,14 +74,17 @@ fn number_of(answer: Answer) -> u8 {
 fn no_ring(rt: &impl Print) -> io::Result<()> {
     let network = faults::no_ring();
     let left = engine::apply(network, Call::Order(Order::Leave(0)));
+    let (Err(not_found), Err(spent)) = (engine::owner(network, 0, 2_500), left.report.answer) else {
+        return Ok(());
+    };
     println!(rt; "R2.1, a network that is no ring: {}", refused(network))?;
     println!(rt;
         "R7.2, its owner of 2,500, from 0, is refused: {}",
-        number_of(engine::owner(network, 0, 2_500))
+        not_found.number()
     )?;
     println!(rt;
         "R6.8, a leave of 0, at the last number, is refused: {}",
-        number_of(left.report.answer)
+        spent.number()
     )
 }
 
@@ -150,11 +144,11 @@ fn main(rt: HostRuntime) -> io::Result<()> {
     )?;
     println!(rt;
         "the same with 32 nodes: {}",
-        refused(faults::full_of_nodes(sound, 32))
+        refused(faults::grown(sound, 32, sound.waiting))
     )?;
     println!(rt;
         "the same with 64 messages: {}",
-        refused(faults::full_of_messages(sound, 64))
+        refused(faults::grown(sound, sound.count, 64))
     )?;
     println!(rt; "doors that refuse 6 the same network with one rule broken:")?;
     for (rule, network) in faults::one_by_one(sound) {

@@ -1,10 +1,10 @@
-// Networks with fields made by chance, from a pseudo-random sequence (xorshift of 32 bits).
+//! Networks with fields made by chance, from a pseudo-random sequence (xorshift of 32 bits).
 use network::Network;
 use node::Node;
 use parts::{Kind, Link, Message, Seq, Status};
 use std::array;
 
-// Copied where a second sequence is to begin at the same place.
+/// Copied where a second sequence is to begin at the same place.
 #[derive(Clone, Copy)]
 pub(crate) struct Generator {
     seed: u32,
@@ -85,7 +85,7 @@ impl Generator {
         }
     }
 
-    // The nodes and the messages are of two sequences, which begin at the next two places of this.
+    /// The nodes and the messages are of two sequences, which begin at the next two places of this.
     pub(crate) fn network(&mut self) -> Network {
         self.next();
         let mut of_nodes = *self;

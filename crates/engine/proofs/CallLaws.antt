@@ -21,7 +21,6 @@ use Rattle.node.specs.declared.Node.{Node}
 use Rattle.parts.specs.declared.Message.{Message}
 use Rattle.node.specs.Shape.{declared_of, capacity, peer_fits, well_formed as node_is_sound}
 use Rattle.node.proofs.ActionLaws.{join-tested, leave-tested}
-use Rattle.node.specs.declared.Outcome.{Outcome}
 use Rattle.node.specs.Actions.{Effect, create_of, join_unchecked, join_of, leave_unchecked, leave_of, act_of, would_grant}
 use Rattle.protocol.specs.declared.Call.{Call}
 use Rattle.protocol.specs.declared.Order.TheVariants.{Declare, Create, Join, Leave}
@@ -49,7 +48,7 @@ use Rattle.searches.specs.declared.Found.{Found}
 use Rattle.searches.specs.Searches.{key_is_taken as key_is_taken_in, some_stands, notice_waits as notice_waits_in}
 use Rattle.searches.proofs.Searches.{stands, taken}
 use Rattle.decision.specs.Decided.{Decided, spots_of, turned_away, adding, stepping, delivering, after_step, room_tests}
-use Rattle.rules.specs.Decisions.{unless, declare_tests, create_tests, create_checks, join_step, leave_tests, receive_step, deliver_tests, deliver_checks}
+use Rattle.rules.specs.Decisions.{unless, declare_tests, create_tests, join_step, leave_tests, receive_step, deliver_tests}
 use Rattle.ruling.specs.Rulings.{decision_on}
 use Rattle.engine.specs.Outcomes.{counted, refused, in_arrays, apply_of}
 use Rattle.engine.specs.Computed.{outcome}
@@ -80,19 +79,6 @@ room-cleared waiting posts clear = leb-true _ _ (not-false _ (cleared (room_test
 after-cleared : {A : Type 0} (said : Coded A) (rest : Option Reason) → after_step said rest ≡ None → rest ≡ None
 after-cleared (done a) rest e = e
 after-cleared (no r) rest e = impossible cc
-
--- after the rules a step that is not refused refuses nothing more
-step-agrees : {A : Type 0} (said : Coded A) (o says : Option Reason) → o ≡ says → (says ≡ None → after_step said None ≡ None) → unless_refused o Some (after_step said None) ≡ says
-step-agrees said None says e accepts = accepts (sym e) ∙ e
-step-agrees said (Some r) says e accepts = e
-
-accepted-step : (said : Coded Outcome) → accepted (stepped said) ≡ true → after_step said None ≡ None
-accepted-step (done o) e = refl
-accepted-step (no r) e = impossible e
-
-tests-cleared : (o rest : Option Reason) → unless_refused o Some rest ≡ None → o ≡ None
-tests-cleared None rest e = refl
-tests-cleared (Some r) rest e = impossible cc
 
 -- a refusal leaves the network as it was
 pub nothing-written : (n : Network) (r : Reason) → counted (refused n r) ≡ outcome n (turned_away r)
@@ -190,15 +176,11 @@ module _ (n : Network) (l : Lengths n) (h : well_formed n ≡ true) where
     abbrev made : Effect
     made = create_of u (node_in n u)
 
-    create-tests : create_checks u n.count (node_in n u) found ≡ first (create_rules (live n) u)
+    create-tests : unless (ltb u n.count) (first (create_tests found)) ≡ first (create_rules (live n) u)
     create-tests = unless-says (ltb u n.count) _ _ says absent
       where
-        says : ltb u n.count ≡ true → unless_refused (first (create_tests found)) Some (after_step made.said None) ≡ first (create_rules (live n) u)
-        says t =
-            let here = ltb-true u n.count t in
-            step-agrees made.said (first (create_tests found)) (first (create_rules (live n) u))
-            (rw (lists-tested, known u here) (λ i. cond (stands n i) (Some (plain 22)) (cond (notice_waits (live n) u) (Some (plain 25)) None)))
-            (λ clear. (λ i. after_step (create_of u (node_read n l h u here i)).said None) ∙ accepted-step _ (is_true _ (accepted-said (accepted_case (live n) (Order (Create u)) clear))))
+        says : ltb u n.count ≡ true → first (create_tests found) ≡ first (create_rules (live n) u)
+        says t = rw (lists-tested, known u (ltb-true u n.count t)) (λ i. cond (stands n i) (Some (plain 22)) (cond (notice_waits (live n) u) (Some (plain 25)) None))
 
         absent : ltb u n.count ≡ false → Some (plain 5) ≡ first (create_rules (live n) u)
         absent f = simp (lists-tested, sym (declared-read u) ∙ f)
@@ -206,7 +188,7 @@ module _ (n : Network) (l : Lengths n) (h : well_formed n ≡ true) where
     decides-create : outcome n (decision_on n (Order (Create u))) ≡ counted (apply_of n (Order (Create u)))
     unfolding decision_on
     decides-create =
-        as-ruled (Order (Create u)) (create_checks u n.count (node_in n u) found) (stepping u made) create-tests
+        as-ruled (Order (Create u)) (unless (ltb u n.count) (first (create_tests found))) (stepping u made) create-tests
         (λ clear.
         let here = ltb-true u n.count (unless_known (ltb u n.count) _ clear).0 in
         steps-outcome u made here (omega (arith, create_posts u (node_in n u), few_messages))
@@ -308,18 +290,16 @@ module _ (n : Network) (l : Lengths n) (h : well_formed n ≡ true) where
         ∙ ap (λ (node : Node). act_of (message_at (live n) place).to node (message_at (live n) place).sender (message_at (live n) place).kind) (node_read n l h (message_at (live n) place).to (addressee place there))
         ∙ sym (received-acts (live n) lists (message_at (live n) place) (message-taken (live n) place (waits place there)).waits)
 
-    deliver-tests : deliver_checks place arrival ≡ first (deliver_rules (live n) place)
+    deliver-tests : first (deliver_tests place arrival) ≡ first (deliver_rules (live n) place)
     deliver-tests = ⊎_elim present absent (decided (ltb place n.waiting))
       where
-        present : ltb place n.waiting ≡ true → deliver_checks place arrival ≡ first (deliver_rules (live n) place)
+        present : ltb place n.waiting ≡ true → first (deliver_tests place arrival) ≡ first (deliver_rules (live n) place)
         present t =
             let there = ltb-true place n.waiting t in
-            step-agrees received.said (first (deliver_tests place arrival)) (first (deliver_rules (live n) place))
-            (rw t
-            ((λ i. first (room_tests (sym (messages-length n l h) i - 1) (received-read there i).posts)) ∙ deliver-says (live n) lists place (waits place there)))
-            (λ clear. (λ i. after_step (received-read there i).said None) ∙ accepted-step _ (is_true _ (accepted-said (accepted_case (live n) (Deliver place) clear))))
+            rw t
+            ((λ i. first (room_tests (sym (messages-length n l h) i - 1) (received-read there i).posts)) ∙ deliver-says (live n) lists place (waits place there))
 
-        absent : ltb place n.waiting ≡ false → deliver_checks place arrival ≡ first (deliver_rules (live n) place)
+        absent : ltb place n.waiting ≡ false → first (deliver_tests place arrival) ≡ first (deliver_rules (live n) place)
         absent f =
             let gone : ltb place (length (live n).messages) ≡ false = ap (ltb place) (messages-length n l h) ∙ f in
             rw f (sym (simp (lists-tested, gone, and-false)))
@@ -327,9 +307,9 @@ module _ (n : Network) (l : Lengths n) (h : well_formed n ≡ true) where
     decides-deliver : outcome n (decision_on n (Deliver place)) ≡ counted (apply_of n (Deliver place))
     unfolding decision_on
     decides-deliver =
-        as-ruled (Deliver place) (deliver_checks place arrival) (delivering place arrival.message.to received) deliver-tests
+        as-ruled (Deliver place) (first (deliver_tests place arrival)) (delivering place arrival.message.to received) deliver-tests
         (λ clear.
-        let (waiting, (room, _)) = cleared (deliver_tests place arrival) (tests-cleared _ _ clear) in
+        let (waiting, (room, _)) = cleared (deliver_tests place arrival) clear in
         let there = tested-below place n.waiting waiting in
         let to : arrival.message.to ≡ (message_at (live n) place).to = ap (λ (m : Message). m.to) (message-live n l h place there) in
         delivers-outcome place arrival.message.to received there (rw to (addressee place there)) (leb-true _ _ (not-false _ room))

@@ -3,9 +3,9 @@
 -- drain does not go on it is finished. Assumes nothing.
 use mathlib.Core.Path.{◌≡◌, refl, sym, ap, ◌∙◌}
 use mathlib.Core.Logic.{⊎_elim, ◌≢◌}
-use mathlib.Core.Bool.{Bool, true, false, cond, ◌&&◌}
+use mathlib.Core.Bool.{true, false, cond, ◌&&◌}
 use mathlib.Core.List.{List, [], ◌∷◌}
-use Rattle.std.specs.Prelude.{None, Some}
+use Rattle.std.specs.Prelude.{None, Some, unwrap_or}
 use Prim.Native.Nat.{ℕ, zero, suc, ◌+◌, ◌*◌, ◌-◌, ◌^◌, ◌≤◌, ◌<◌}
 use native.Mathlib.Omega.{arith}
 use lib.ListN.{length, length-append, length-replicate}
@@ -32,7 +32,7 @@ use Rattle.network.proofs.Lengths.{Lengths}
 use Rattle.network.proofs.ArrayLaws.{well-formed, live-held, held_well_formed}
 use Rattle.network.proofs.LiveLaws.{messages-length}
 use Rattle.engine.specs.Outcomes.{Counted, counted, in_arrays, apply_of, drain_of}
-use Rattle.engine.specs.Computed.{place_of, next_delivery}
+use Rattle.engine.specs.Computed.{next_delivery}
 use Rattle.ruling.specs.Places.{lowest_place_from, lowest_place}
 use Rattle.engine.proofs.CallLaws.{same, delivers-here}
 
@@ -57,7 +57,7 @@ first-is-lowest n l h waits few =
     lowest-at (live n) 0 (omega (arith, all)) (λ q k. absurd (omega arith)) (rw clear (is_true _ (accepted-said (accepted_case (live n) (Deliver 0) clear))))
 
 -- where a message waits the search for the lowest place ends at one
-ends_somewhere : (s : State) (k from q : ℕ) → from ≤ q → q < from + k → can_deliver s q ≡ true → lowest_from s from k ≡ Some (place_of (lowest_from s from k))
+ends_somewhere : (s : State) (k from q : ℕ) → from ≤ q → q < from + k → can_deliver s q ≡ true → lowest_from s from k ≡ Some (unwrap_or (lowest_from s from k) 0)
 ends_somewhere s zero from q above below can = absurd (omega arith)
 ends_somewhere s (suc k) from q above below can =
     ⊎_elim (λ t. rw t) (λ f. rw f (ends_somewhere s k (suc from) q (past f) (omega arith) can)) (decided (can_deliver s from))
@@ -65,29 +65,21 @@ ends_somewhere s (suc k) from q above below can =
     past : can_deliver s from ≡ false → from < q
     past refused = let other : from ≢ q = λ e. not-both (ap (can_deliver s) e ∙ can) refused in omega arith
 
-next_place : (n : Network) → Lengths n → well_formed n ≡ true → 0 < n.waiting → lowest (live n) ≡ Some (place_of (lowest (live n)))
+next_place : (n : Network) → Lengths n → well_formed n ≡ true → 0 < n.waiting → lowest (live n) ≡ Some (unwrap_or (lowest (live n)) 0)
 next_place n l h waits =
     let (q, there, can) = some-lowest (live n) (holds (well-formed n h).lists) (omega (arith, messages-length n l h)) in
     ends_somewhere (live n) (length (live n).messages) 0 q (omega arith) (omega arith) (is_true _ can)
 
 -- the code looks for that place
 module _ (n : Network) (l : Lengths n) (h : well_formed n ≡ true) where
-  same-search : (place k : ℕ) → place + k ≤ n.waiting → place_of (lowest_from (live n) place k) ≡ lowest_place_from n place k
+  same-search : (place k : ℕ) → place + k ≤ n.waiting → lowest_from (live n) place k ≡ lowest_place_from n place k
   same-search place zero inside = refl
   same-search place (suc k) inside =
-      ⊎_elim (λ t. there t ∙ sym (here t)) (λ f. there f ∙ same-search (suc place) k (omega arith) ∙ sym (here f)) (decided (can_deliver (live n) place))
-    where
-      there : {b : Bool} → can_deliver (live n) place ≡ b
-          → place_of (lowest_from (live n) place (suc k)) ≡ place_of (cond b (Some place) (lowest_from (live n) (suc place) k))
-      there e = ap (λ b. place_of (cond b (Some place) (lowest_from (live n) (suc place) k))) e
+      ap (cond (can_deliver (live n) place) (Some place)) (same-search (suc place) k (omega arith))
+      ∙ ap (λ b. cond b (Some place) (lowest_place_from n (suc place) k)) (sym (delivers-here n l h place (omega arith)))
 
-      here : {b : Bool} → can_deliver (live n) place ≡ b → lowest_place_from n place (suc k) ≡ cond b place (lowest_place_from n (suc place) k)
-      here e = ap (λ b. cond b place (lowest_place_from n (suc place) k)) (delivers-here n l h place (omega arith) ∙ e)
-
-  pub lowest-is : 0 < n.waiting → lowest (live n) ≡ Some (lowest_place n)
-  lowest-is waits =
-      let all = messages-length n l h in
-      next_place n l h waits ∙ ap Some (ap (λ k. place_of (lowest_from (live n) 0 k)) all ∙ same-search 0 n.waiting (omega arith))
+  pub lowest-is : lowest (live n) ≡ lowest_place n
+  lowest-is = ap (lowest_from (live n) 0) (messages-length n l h) ∙ same-search 0 n.waiting (omega arith)
 
 -- ---- a drain that has made some of its deliveries
 pub record Underway (start : Network) (budget : ℕ) (n : Network) (made posted : ℕ) : Type 0 where
@@ -144,14 +136,14 @@ module _ {start : Network} {budget : ℕ} {n : Network} {made posted : ℕ} (u :
 
   -- the next delivery, and what it comes to
   module _ (x : Counted) (goes : (ltb made budget && ltb 0 n.waiting) ≡ true) (e : x ≡ counted (next_delivery n)) where
-    place : lowest (live n) ≡ Some (place_of (lowest (live n)))
+    place : lowest (live n) ≡ Some (unwrap_or (lowest (live n)) 0)
     place = next_place n u.arrays u.well_formed (ltb-true 0 n.waiting (both (ltb made budget) _ goes).1)
 
     pub next_fits : budget < 2 ^ 16 → (made < 65_535) × (posted + x.posted < 4_294_967_296)
-    next_fits small = tally-fits (place_of (lowest (live n))) x goes place e small
+    next_fits small = tally-fits (unwrap_or (lowest (live n)) 0) x goes place e small
 
     pub next-goes-on : Underway start budget x.network (made + 1) (posted + x.posted)
-    next-goes-on = goes_on (place_of (lowest (live n))) x goes place e
+    next-goes-on = goes_on (unwrap_or (lowest (live n)) 0) x goes place e
 
   -- nothing more to be delivered
   finished : well_formed start ≡ true → places (budget - made) (live n) ≡ []

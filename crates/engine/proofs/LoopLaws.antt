@@ -49,7 +49,7 @@ module _ (script : List ℕ) (x : State) (t : Turn script x) (size : length scri
   few-records : x.progress.ordinal ≤ 21_846
   few-records = omega (arith, t.within.few, t.within.inside)
 
-  pub room : length x.text + 40 ≤ 1_000_000
+  pub room : length x.text + 40 ≤ 874_000
   room = omega (arith, few-records, t.short)
 
   pub may-step : x.progress.at < length script → MayStep script x

@@ -21,7 +21,7 @@ use Rattle.protocol.specs.declared.Reply.{Reply}
 use Rattle.report.specs.declared.Report.{Report}
 use Rattle.protocol.specs.Answer.{answered}
 use Rattle.printout.specs.Lines.{heading, line_of, last_line}
-use Rattle.printout.specs.Writing.{printed}
+use Rattle.printout.specs.Writing.{printed, LongerByALine}
 use Rattle.printout.proofs.Laws.{printed_whole}
 use Rattle.progress.specs.declared.Progress.{Progress}
 use Rattle.progress.specs.Leaving.{posted_after, left, line_after, refused as refused_text}
@@ -55,12 +55,12 @@ abbrev pub MayStep : List ℕ → State → Type 0
 MayStep script x =
     (well_formed x.kept.network ≡ true)
     × (x.progress.at < length script)
-    × (length x.text + 40 ≤ 1_048_576)
+    × (length x.text + 40 ≤ 874_000)
     × (x.progress.ordinal < 100_000)
     × (x.progress.posted < 100_000_000)
 
 abbrev pub Stepped : (script : List ℕ) → State → State → Type 0
-Stepped script x y = (far y ≡ step_of script (far x)) × (well_formed y.kept.network ≡ true) × (length y.text ≤ length x.text + 40)
+Stepped script x y = (far y ≡ step_of script (far x)) × (well_formed y.kept.network ≡ true) × LongerByALine x.text y.text
 
 -- ---- what is asked at the cursor is allowed
 pub allowed : (n : Network) → well_formed n ≡ true → (t : Result Task Refusal) → Allowed n t
@@ -123,21 +123,21 @@ short_refusal : length (line_of 0 (no (plain 7))) ≤ 40
 unfolding line_of decimal
 short_refusal = omega arith
 
-pub refused-whole : {text after : List ℕ} → text ≡ heading → after ≡ refused_text 1_048_576 text → after ≡ too_long
+pub refused-whole : {text after : List ℕ} → text ≡ heading → after ≡ refused_text 874_000 text → after ≡ too_long
 refused-whole reads written =
     let line = line_of 0 (no (plain 7)) in
-    let first : printed 1_048_576 heading line ≡ heading ++ line = printed_whole 1_048_576 heading line (omega arith) in
-    let room : length (heading ++ line) + 40 ≤ 1_048_576 = omega (arith, length-append heading line, short_refusal) in
-    written ∙ rw (reads, first) (printed_whole 1_048_576 (heading ++ line) (last_line 0 0) room)
+    let first : printed 874_000 heading line ≡ heading ++ line = printed_whole 874_000 heading line (omega arith) in
+    let room : length (heading ++ line) + 40 ≤ 874_000 = omega (arith, length-append heading line, short_refusal) in
+    written ∙ rw (reads, first) (printed_whole 874_000 (heading ++ line) (last_line 0 0) room)
 
 -- ---- a record that is left, where there is room and no count wraps
-module _ (p r : Progress) (after : ℕ) (m : Network) (report : Report) (text buffer : List ℕ) (may : (length text + 40 ≤ 1_048_576) × (p.ordinal < 100_000) × (p.posted < 100_000_000))
+module _ (p r : Progress) (after : ℕ) (m : Network) (report : Report) (text buffer : List ℕ) (may : (length text + 40 ≤ 874_000) × (p.ordinal < 100_000) × (p.posted < 100_000_000))
     (few : report.posted ≤ 384) (quiet : (q : Reason) → answered report.answer ≡ no q → report.posted ≡ 0) where
   summed : (s : Coded Reply) → answered report.answer ≡ s → posted_after p.posted s report.posted ≡ p.posted + report.posted
   summed (replied reply) e = mod-eq_of_lt (omega (arith, may.2, few))
   summed (no q) e = omega (arith, quiet q e)
 
-  pub leaves-so : r ≡ left p after report → buffer ≡ printed 1_048_576 text (line_after p report) → length buffer ≤ length text + 40 → Left p r after (reported m report) text buffer
+  pub leaves-so : r ≡ left p after report → buffer ≡ printed 874_000 text (line_after p report) → length buffer ≤ length text + 40 → Left p r after (reported m report) text buffer
   leaves-so is line short =
       let next : (p.ordinal + 1) % 2 ^ 32 ≡ p.ordinal + 1 = mod-eq_of_lt (omega (arith, may.1)) in (
         ap (λ (q : Progress). q.at) is,

@@ -1,7 +1,7 @@
 -- No rules stand here: it is what the code computes on its way, a decision carried out, the next
 -- delivery of a drain, and what a task comes to. That this is what the rules say of a well-formed
 -- network is proved in `proofs/`. Definitions only.
-use Rattle.std.specs.Prelude.{ℕ, ◌≡◌, true, Option, None, Some, Result, Ok, Err}
+use Rattle.std.specs.Prelude.{◌≡◌, true, unwrap_or, Result, Ok, Err}
 use Rattle.refusal.specs.declared.Refusal.{Refusal}
 use Rattle.refusal.specs.Code.{reason}
 use Rattle.protocol.specs.declared.Call.TheVariants.{Deliver}
@@ -21,12 +21,8 @@ abbrev pub outcome : Network → Decided → Counted
 outcome n d = record { network = committed n d.change; posted = d.posted; said = d.said }
 
 -- ---- a drain's next delivery
-abbrev pub place_of : Option ℕ → ℕ
-place_of None = 0
-place_of (Some place) = place
-
 abbrev pub next_delivery : Network → Applied
-next_delivery n = apply_of n (Deliver (place_of (lowest (live n))))
+next_delivery n = apply_of n (Deliver (unwrap_or (lowest (live n)) 0))
 
 -- what a task comes to, and what it asks of the network
 abbrev pub done_on : Network → Result Task Refusal → Applied

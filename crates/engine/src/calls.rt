@@ -1,4 +1,4 @@
-// Any call on any network (R6.5, R6.6, R6.7, R6.8, R6.9), by value and where it lies.
+//! Any call on any network (R6.5, R6.6, R6.7, R6.8, R6.9), by value and where it lies.
 ghost use Rattle.std.specs.Prelude.{◌≡◌};
 ghost use Rattle.engine.specs.Outcomes.{called, reported, counted, apply_of};
 
@@ -8,7 +8,7 @@ use protocol::Call;
 use refusal::Refusal;
 use report::Report;
 
-// Any call on any network, where it lies.
+/// Any call on any network, where it lies.
 pub fn act(network: &mut Network, call: Call) -> Report
     ensures { reported network.new result ≡ counted (apply_of network.old call) }
 {
@@ -19,7 +19,7 @@ pub fn act(network: &mut Network, call: Call) -> Report
     }
 }
 
-// The same by value.
+/// Any call on any network by value: the same on a copy (R11.6).
 pub fn apply(mut network: Network, call: Call) -> Called
     ensures { called result ≡ counted (apply_of network call) }
 {

@@ -1,4 +1,4 @@
-// A drain of any network (docs/RULES.md, section 8), by value and where it lies.
+//! A drain of any network (docs/RULES.md, section 8), by value and where it lies.
 ghost use Rattle.std.specs.Prelude.{◌≡◌};
 ghost use Rattle.engine.specs.Outcomes.{called, reported, counted, drain_of};
 
@@ -7,7 +7,7 @@ use network::Network;
 use refusal::Refusal;
 use report::Report;
 
-// A drain of any network, where it lies.
+/// A drain of any network, where it lies.
 pub fn drain_in_place(network: &mut Network, budget: u16) -> Report
     ensures { reported network.new result ≡ counted (drain_of network.old budget) }
 {
@@ -18,7 +18,7 @@ pub fn drain_in_place(network: &mut Network, budget: u16) -> Report
     }
 }
 
-// The same by value.
+/// A drain of any network by value: the same on a copy (R11.6).
 pub fn drain(mut network: Network, budget: u16) -> Called
     ensures { called result ≡ counted (drain_of network budget) }
 {

@@ -1,6 +1,7 @@
-// Calls, drains and tasks on a network where it lies, past the test. None of them knows a rule. That
-// the network is well formed stands in each `requires`, and not in a type: a door has the network
-// behind a `&mut`, and would copy it into a struct that keeps the fact.
+//! Calls, drains and tasks on a network where it lies, past the test. None of them knows a rule.
+//! That the network is well formed stands in each `requires`, and not in a type: a struct that
+//! holds the `&mut` and keeps the fact would be made at each door, and each contract would be of
+//! what lies behind its reference.
 ghost use Rattle.std.specs.Prelude.{◌≡◌, true, ◌<◌, length};
 ghost use Rattle.network.specs.Arrays.{well_formed};
 ghost use Rattle.engine.specs.Outcomes.{reported, counted, apply_of, drain_of};
@@ -12,8 +13,10 @@ use refusal::Refusal;
 use report::{Report, Tally};
 use task::Task;
 
-// What the type of a network says of its arrays. A proof is told it where an element is read, and not
-// where the network is lent. What is read is not used, so that nothing is left of it.
+/// What the type of a network says of its arrays. A proof is told it where an element is read, and
+/// not where the network is lent. What is read is not used, so that nothing is left of it. Called
+/// in the six functions whose proofs need it: a contract of `Network` that told it would be called
+/// there too.
 pub(crate) fn sizes(network: &Network)
     ensures nodes { length network.now.nodes ≡ 32 }
     ensures messages { length network.now.messages ≡ 64 }
@@ -36,8 +39,9 @@ pub(crate) fn act(network: &mut Network, call: Call) -> Report
     }
 }
 
-// A delivery at the lowest place where one is not refused. Only a full queue has a place where a
-// delivery finds no room, so that else the first place will do.
+// A delivery at the lowest place where one is not refused: where a message waits, there is one.
+// Only a full queue has a place where a delivery finds no room, so that else the first place will
+// do.
 fn deliver(network: &mut Network) -> Report
     requires { (well_formed network.old ≡ true) × (0 < network.old.waiting) }
     ensures { reported network.new result ≡ counted (next_delivery network.old) }
@@ -46,7 +50,7 @@ fn deliver(network: &mut Network) -> Report
     let place = if network.waiting < QUEUE_LIMIT {
         0
     } else {
-        ruling::lowest(network)
+        ruling::lowest(network).unwrap_or(0)
     };
     act(network, Call::Deliver(place))
 }
@@ -68,8 +72,8 @@ pub(crate) fn execute(network: &mut Network, task: Result<Task, Refusal>) -> Rep
     requires { Allowed network.old task }
     ensures { reported network.new result ≡ counted (done_on network.old task) }
 {
-    // A task is data that a script names, and no step that a caller hands in. Two matches: where one
-    // goes by cases of the `Ok`, a proof is not told which case the task is.
+    // A task is data that a script names, and no step that a caller hands in. Two matches: in one
+    // over `Ok(Task::Call(call))` and so on, a proof is not told which task it is.
     let task = match task {
         Ok(task) => task,
         Err(refusal) => return Report::refused(refusal),

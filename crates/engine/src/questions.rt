@@ -1,5 +1,5 @@
-// What any network is asked without being changed: who is inserted (R6.11), and which node owns a
-// serial (R7.3).
+//! What any network is asked without being changed: who is inserted (R6.11), and which node owns a
+//! serial (R7.3).
 ghost use Rattle.std.specs.Prelude.{◌≡◌};
 ghost use Rattle.protocol.specs.Answer.{answered};
 ghost use Rattle.engine.specs.Answers.{inserted_of, owner_of};
@@ -8,7 +8,7 @@ use network::Network;
 use protocol::Answer;
 use refusal::Refusal;
 
-// Who is inserted: one word, bit n for node n, and how many they are.
+/// Who is inserted: one word, bit n for node n, and how many they are.
 pub fn inserted(network: Network) -> Answer
     ensures { answered result ≡ inserted_of network }
 {
@@ -18,7 +18,7 @@ pub fn inserted(network: Network) -> Answer
     members::inserted(&network)
 }
 
-// The owner of a serial from a start, in any network.
+/// The owner of a serial from a start, in any network.
 pub fn owner(network: Network, start: u8, serial: u32) -> Answer
     ensures { answered result ≡ owner_of network start serial }
 {

@@ -1,6 +1,6 @@
-// Who is inserted (R4.1, R4.2), for every network: a node's status says it, or leaves it to the
-// messages that wait. What this comes to on a well-formed network's lists is proved in `proofs/`;
-// whether a network is well formed is tested in a crate above.
+//! Who is inserted (R4.1, R4.2), for every network: a node's status says it, or leaves it to the
+//! messages that wait. What this comes to on a well-formed network's lists is proved in `proofs/`;
+//! whether a network is well formed is tested in a crate above.
 #![tactic(auto)]
 
 ghost use Rattle.std.specs.Prelude.{◌≡◌};
@@ -11,8 +11,9 @@ use network::Network;
 use parts::Status;
 use protocol::{Answer, Reply};
 
-// Whether a SetRAck to a node waits. Not one function with the search for a notice: a test of the kind as a
-// parameter would be longer than either.
+// Whether a SetRAck to a node waits. Not one function with the search for a notice: it would take
+// the test of a kind, and its contract would say what that test may be asked and answers; public,
+// it would ask that of its callers, which no public function does (R11.1).
 fn ack_waits(network: &Network, number: u8) -> bool
     ensures { result ≡ ack_waits network.now number }
 {
@@ -22,7 +23,7 @@ fn ack_waits(network: &Network, number: u8) -> bool
         .any(|message| message.kind.is_ack() && message.to == number)
 }
 
-// Whether a node is inserted; the messages are searched only where that depends on them.
+/// Whether a node is inserted; the messages are searched only where that depends on them.
 pub fn is_member(network: &Network, number: u8) -> bool
     ensures { result ≡ member_in network.now number }
 {
@@ -47,7 +48,7 @@ fn word(network: &Network) -> u32
     word
 }
 
-// Who is inserted: that word, and how many they are.
+/// Who is inserted: one word, bit n for node n, and how many they are.
 pub fn inserted(network: &Network) -> Answer
     ensures { answered result ≡ inserted_in network.now }
 {

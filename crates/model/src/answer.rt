@@ -1,7 +1,7 @@
-// What a record is answered, and the words for it.
+//! What a record is answered, and the words for it.
 use std::fmt;
 
-// What a call did.
+/// What a call did.
 #[derive(Clone, Copy, Eq, Ord, PartialEq, PartialOrd)]
 pub enum Outcome {
     Created,
@@ -37,7 +37,7 @@ impl fmt::Display for Outcome {
     }
 }
 
-// Why a record or a script is refused, by its number.
+/// Why a record or a script is refused, by its number.
 #[derive(Clone, Copy, Eq, Ord, PartialEq, PartialOrd)]
 pub enum Refusal {
     UnknownMark = 1,

@@ -1,12 +1,12 @@
-// The network of paper 01, written a second time and otherwise: two lists. What an order or a
-// delivery comes to is found first, with the network untouched; then the step is taken, if it is
-// not refused.
+//! The network of paper 01, written a second time and otherwise: two lists. What an order or a
+//! delivery comes to is found first, with the network untouched; then the step is taken, if it is
+//! not refused.
 use crate::answer::{Answer, Outcome, Refusal};
 use crate::rules::{Kind, Message, Node, Status};
 use arrayvec::ArrayVec;
 use std::iter;
 
-// What an order or a delivery does: what a node is from then on, what it posts, and the outcome.
+/// What an order or a delivery does: what a node is from then on, what it posts, and the outcome.
 #[derive(Clone, Copy)]
 pub struct Step {
     node: u8,
@@ -29,7 +29,7 @@ fn holds(a: u32, b: u32, d: u32) -> bool {
     a == b || d.wrapping_sub(a) < b.wrapping_sub(a)
 }
 
-#[derive(Drop)]
+#[derive(Default, Drop)]
 pub struct Network {
     nodes: ArrayVec<Node, 32>,
     messages: ArrayVec<Message, 64>,
@@ -38,25 +38,16 @@ pub struct Network {
 }
 
 impl Network {
-    pub fn new() -> Self {
-        Network {
-            nodes: ArrayVec::new(),
-            messages: ArrayVec::new(),
-            posted: 0,
-            passed_over: 0,
-        }
-    }
-
     pub fn messages(&self) -> &[Message] {
         self.messages.as_slice()
     }
 
-    // How many nodes are declared.
+    /// How many nodes are declared.
     pub fn declared_nodes(&self) -> u8 {
         self.nodes.len() as u8
     }
 
-    // How many messages wait.
+    /// How many messages wait.
     pub fn waiting(&self) -> u8 {
         self.messages.len() as u8
     }
@@ -65,17 +56,17 @@ impl Network {
         self.messages.is_full()
     }
 
-    // How many messages were ever posted.
+    /// How many messages were ever posted.
     pub fn posted(&self) -> usize {
         self.posted
     }
 
-    // How often a drain passed over a place whose delivery is refused.
+    /// How often a drain passed over a place whose delivery is refused.
     pub fn passed_over(&self) -> usize {
         self.passed_over
     }
 
-    // A node that is not declared is as one that is out.
+    /// A node that is not declared is as one that is out.
     pub fn node(&self, number: u8) -> Node {
         self.nodes
             .get(usize::from(number))
@@ -83,7 +74,7 @@ impl Network {
             .unwrap_or_default()
     }
 
-    // The number of a node that is declared.
+    /// The number of a node that is declared.
     pub(crate) fn declared(&self, number: u8) -> Result<u8, Refusal> {
         if usize::from(number) < self.nodes.len() {
             Ok(number)
@@ -109,7 +100,8 @@ impl Network {
         self.nodes.iter().all(|node| node.status == Status::Out)
     }
 
-    // No node is in, some are not out, and nothing is under way: from here on no request is granted.
+    /// No node is in, some are not out, and nothing is under way: from here on no request is
+    /// granted.
     pub fn is_stuck(&self) -> bool {
         self.messages.is_empty()
             && !self.are_all_out()
@@ -277,7 +269,7 @@ impl Network {
         }
     }
 
-    // The owner of a serial, and how many hops lead to it from a start.
+    /// The owner of a serial, and how many hops lead to it from a start.
     pub fn owner_from(&self, start: u8, serial: u32) -> Option<(usize, u8)> {
         iter::successors(Some(start), |node| Some(self.node(*node).right))
             .take(self.nodes.len())
@@ -288,7 +280,7 @@ impl Network {
             })
     }
 
-    // The node that so many right links lead to from a start.
+    /// The node that so many right links lead to from a start.
     pub fn after_hops(&self, start: u8, hops: u8) -> u8 {
         (0..hops).fold(start, |at, _| self.node(at).right)
     }

@@ -1,27 +1,24 @@
-// The model's printout of any script, and where another printout differs from it.
+//! The model's printout of any script, and where another printout differs from it.
 use crate::answer::Refusal;
 use crate::reading::Player;
-use std::fmt;
+use std::{fmt, iter};
 
 pub const LONGEST: usize = 65_536;
 
-// The lines of the records, numbered from 1.
+// The lines of the records, numbered from 1. What is fed last is the end.
 fn print_lines<W: fmt::Write>(player: &mut Player, script: &[u8], out: &mut W) -> fmt::Result {
-    let mut ordinal = 0usize;
-    for byte in script {
-        if let Some(line) = player.feed(*byte) {
-            ordinal = ordinal.saturating_add(1);
-            writeln!(out, "{ordinal} {line}")?;
-        }
-    }
-    if let Some(line) = player.end() {
-        ordinal = ordinal.saturating_add(1);
+    let fed = script.iter().map(Some).chain(iter::once(None));
+    let lines = fed.filter_map(|byte| match byte {
+        Some(byte) => player.feed(*byte),
+        None => player.end(),
+    });
+    for (ordinal, line) in (1usize..).zip(lines) {
         writeln!(out, "{ordinal} {line}")?;
     }
     Ok(())
 }
 
-// The printout of a script, from an empty network.
+/// The printout of a script, from an empty network.
 pub fn print<W: fmt::Write>(script: &[u8], out: &mut W) -> fmt::Result {
     let mut player = Player::new();
     writeln!(out, "ring 1")?;
@@ -68,7 +65,7 @@ impl fmt::Write for Printout<'_> {
     }
 }
 
-// Where another printout of a script differs first from the model's, counted from 1.
+/// Where another printout of a script differs first from the model's, counted from 1.
 pub fn first_difference(script: &[u8], other: &[u8]) -> Option<usize> {
     let mut printout = Printout {
         rest: other,

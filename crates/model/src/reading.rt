@@ -1,12 +1,12 @@
-// A script, read byte by byte: a machine that is fed one byte at a time, and answers when that byte
-// completes a record.
+//! A script, read byte by byte: a machine that is fed one byte at a time, and answers when that
+//! byte completes a record.
 use crate::answer::{Answer, Refusal};
 use crate::network::Network;
 use crate::script::{Mark, Record};
 use arrayvec::ArrayVec;
 use std::fmt;
 
-// What came of a record, and its mark, if it has one.
+/// What came of a record, and its mark, if it has one.
 #[derive(Clone, Copy)]
 pub struct Line {
     pub mark: Option<Mark>,
@@ -22,43 +22,41 @@ impl fmt::Display for Line {
     }
 }
 
-// `taken` has the bytes of the record that is under way. After a mark that is none nothing is read
-// any more.
+/// `taken` has the bytes of the record that is under way. It is gone after a mark that is none:
+/// then nothing is read any more.
 #[derive(Drop)]
 pub struct Player {
     network: Network,
-    taken: ArrayVec<u8, 8>,
-    has_stopped: bool,
+    taken: Option<ArrayVec<u8, 8>>,
+}
+
+// The record that some bytes begin with a mark of, once all its bytes are there.
+fn record_of(taken: &[u8]) -> Option<Result<Record, Refusal>> {
+    let [first, second, fields @ ..] = taken else {
+        return None;
+    };
+    Mark::try_from([*first, *second])
+        .map(|mark| Record::from_fields(mark, fields))
+        .transpose()
+}
+
+fn mark_of(taken: &[u8]) -> Option<Mark> {
+    match taken {
+        [first, second, ..] => Mark::try_from([*first, *second]).ok(),
+        _ => None,
+    }
 }
 
 impl Player {
     pub fn new() -> Self {
         Player {
-            network: Network::new(),
-            taken: ArrayVec::new(),
-            has_stopped: false,
+            network: Network::default(),
+            taken: Some(ArrayVec::new()),
         }
     }
 
     pub fn network(&self) -> &Network {
         &self.network
-    }
-
-    // The mark of the record that is under way, and the record once all its bytes are there.
-    fn record(&self) -> Option<Result<Record, Refusal>> {
-        let [first, second, fields @ ..] = self.taken.as_slice() else {
-            return None;
-        };
-        Mark::try_from([*first, *second])
-            .map(|mark| Record::from_fields(mark, fields))
-            .transpose()
-    }
-
-    fn mark(&self) -> Option<Mark> {
-        match self.taken.as_slice() {
-            [first, second, ..] => Mark::try_from([*first, *second]).ok(),
-            _ => None,
-        }
     }
 
     // The fields are judged in their order, and then the call.
@@ -84,21 +82,20 @@ impl Player {
         Ok(network.take(step).into())
     }
 
-    // One byte more, and what comes of the record that it completes, or of a mark that is none.
+    /// One byte more, and what comes of the record that it completes, or of a mark that is none.
     pub fn feed(&mut self, byte: u8) -> Option<Line> {
-        if self.has_stopped || self.taken.try_push(byte).is_err() {
-            return None;
-        }
-        match self.record()? {
+        let taken = self.taken.as_mut()?;
+        taken.try_push(byte).ok()?;
+        match record_of(taken.as_slice())? {
             Ok(record) => {
-                self.taken.clear();
+                taken.clear();
                 Some(Line {
                     mark: Some(record.mark()),
                     reply: self.execute(record),
                 })
             }
             Err(refusal) => {
-                self.has_stopped = true;
+                self.taken = None;
                 Some(Line {
                     mark: None,
                     reply: Err(refusal),
@@ -107,13 +104,14 @@ impl Player {
         }
     }
 
-    // What comes of the end of the script: a record that is under way is cut short.
+    /// What comes of the end of the script: a record that is under way is cut short.
     pub fn end(&self) -> Option<Line> {
-        if self.has_stopped || self.taken.is_empty() {
+        let taken = self.taken.as_ref()?;
+        if taken.is_empty() {
             return None;
         }
         Some(Line {
-            mark: self.mark(),
+            mark: mark_of(taken.as_slice()),
             reply: Err(Refusal::CutShort),
         })
     }

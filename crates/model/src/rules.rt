@@ -1,5 +1,6 @@
-// What a message does to the node that it reaches, after 004 Fig. 1 and paper 01. The outcome comes
-// first, from the node and the message; the node afterwards and the messages posted follow from it.
+//! What a message does to the node that it reaches, after 004 Fig. 1 and paper 01. The outcome
+//! comes first, from the node and the message; the node afterwards and the messages posted follow
+//! from it.
 use crate::answer::Outcome;
 
 #[derive(Clone, Copy, Default, Eq, PartialEq)]
@@ -11,7 +12,8 @@ pub enum Status {
     Del,
 }
 
-// A node that is out has links too, but nobody follows them.
+/// What a node does not have is 0: the rules read a link or a number only where the status says
+/// that it is there, and the walks of `compare`, which begin at any node, want a link of each.
 #[derive(Clone, Copy, Default)]
 pub struct Node {
     pub key: u32,
@@ -31,8 +33,9 @@ pub enum Kind {
     SetL,
 }
 
-// `link` is the new right link that a SetR asks for, or the left link that a SetL tells. What a kind
-// does not have is 0.
+/// `link` is the new right link that a SetR asks for, or the left link that a SetL tells. A field
+/// that a kind does not use is 0. The fields do not stand in `Kind`, since who awaits a message
+/// asks by its kind alone, and where a field is read the outcome has told the kind already.
 #[derive(Clone, Copy, Default)]
 pub struct Message {
     pub kind: Kind,

@@ -1,4 +1,4 @@
-// The records of a script: their marks, their fields and their bytes.
+//! The records of a script: their marks, their fields and their bytes.
 use crate::answer::Refusal;
 use arrayvec::{ArrayString, ArrayVec, CapacityError};
 use std::fmt;
@@ -58,7 +58,7 @@ impl TryFrom<[u8; 2]> for Mark {
     }
 }
 
-// The four bytes of a serial, in the form that its mark says.
+/// The four bytes of a serial, in the form that its mark says.
 #[derive(Clone, Copy, Eq, PartialEq)]
 pub enum Serial {
     Packed([u8; 4]),
@@ -68,7 +68,7 @@ pub enum Serial {
 // A packed serial has the digits in decimal that its bytes have as a number in hex. So each form
 // is made of the other by printing in the one base and reading in the other.
 impl Serial {
-    // The last eight digits of a number.
+    /// The last eight digits of a number.
     pub fn packed(value: u32) -> Serial {
         let low = value % 100_000_000;
         let mut digits = ArrayString::<8>::new();
@@ -119,7 +119,7 @@ pub enum Record {
 }
 
 impl Record {
-    // The record that a mark and its fields make; none where a byte is wanting.
+    /// The record that a mark and its fields make; none where a byte is wanting.
     pub(crate) fn from_fields(mark: Mark, fields: &[u8]) -> Option<Record> {
         match (mark, fields) {
             (Mark::Bc, &[a, b, c, d]) => Some(Record::Declare(Serial::Packed([a, b, c, d]))),
@@ -163,7 +163,7 @@ impl Record {
         }
     }
 
-    // Puts the record behind a script.
+    /// Puts the record behind a script.
     pub fn append_to<const N: usize>(
         self,
         script: &mut ArrayVec<u8, N>,

@@ -1,5 +1,5 @@
-// Well-formedness of a network (docs/RULES.md, section 2), clause by clause.
-ghost use Rattle.std.specs.Prelude.{◌≡◌, not, ◌<◌, ◌≤◌, eqb, length, take};
+//! Well-formedness of a network (docs/RULES.md, section 2), clause by clause.
+ghost use Rattle.std.specs.Prelude.{◌≡◌, not, ◌<◌, ◌≤◌, eqb, length};
 ghost use Rattle.predicates.specs.Tests.{count, every, every_below};
 ghost use Rattle.parts.specs.Shape.{message_fits};
 ghost use Rattle.protocol.specs.State.{is_exchange_of, exchanges, node_is_well_formed};
@@ -16,7 +16,8 @@ fn are_vacant_nodes(nodes: &[Node]) -> bool
     nodes.iter().all(|node| *node == VACANT_NODE)
 }
 
-// Not one function with the last: over a type parameter `==` says no more than its bound does.
+// Not one function with the last: over a type parameter its contract would go by the `==` of the
+// type, and each use would have to show what that says.
 fn are_vacant_messages(messages: &[Message]) -> bool
     ensures { result ≡ every is_vacant_message messages.now }
 {
@@ -68,7 +69,8 @@ fn exchanges_allowed(status: Status) -> usize
     }
 }
 
-// A node among all, with all the messages that wait.
+// A node among all, with all the messages that wait. Here and below they are the two slices, and
+// not the network: that would cut its arrays again for each node.
 fn node_is_well_formed(nodes: &[Node], messages: &[Message], number: usize) -> bool
     requires { (number < length nodes.now) × (length nodes.now ≤ 32) }
     ensures { result ≡ node_is_well_formed (record { nodes = nodes.now; messages = messages.now }) number }

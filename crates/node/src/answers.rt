@@ -1,4 +1,4 @@
-// SetRAck (R5.10) and SetRNak (R5.11): the answers to a request.
+//! SetRAck (R5.10) and SetRNak (R5.11): the answers to a request.
 ghost use Rattle.std.specs.Prelude.{◌≡◌};
 ghost use Rattle.node.specs.Actions.{effect, on_set_r_ack, on_set_r_nak};
 
@@ -24,6 +24,7 @@ impl Node {
         }
     }
 
+    // Not one function with the last: the two differ in every arm but the first.
     pub(crate) fn on_set_r_nak(self) -> Step
         ensures { effect result ≡ on_set_r_nak self.status self }
     {

@@ -1,4 +1,4 @@
-// Create (R5.1): the first node of a ring.
+//! Create (R5.1): the first node of a ring.
 ghost use Rattle.std.specs.Prelude.{◌≡◌};
 ghost use Rattle.node.specs.Actions.{effect, create_of};
 

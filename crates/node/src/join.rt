@@ -1,4 +1,4 @@
-// Join (R5.2): a node asks the node on its left to let it in.
+//! Join (R5.2): a node asks the node on its left to let it in.
 ghost use Rattle.std.specs.Prelude.{◌≡◌};
 ghost use Rattle.node.specs.Actions.{effect, join_unchecked, join_of};
 
@@ -7,7 +7,7 @@ use parts::{Kind, Message, Status};
 use refusal::Refusal;
 
 impl Node {
-    // A join with no test of node or neighbours.
+    /// A join with no test of node or neighbours.
     #[tactic(auto, unfolding(crate::specs::Actions::join_unchecked))]
     pub fn join_unchecked(self, me: u8, left: Peer, right: Peer) -> Step
         ensures { effect result ≡ join_unchecked me self left right }

@@ -1,5 +1,5 @@
-// Leave (R5.3, R5.4): a node asks the node on its left to pass it over, or goes at once where it is
-// alone.
+//! Leave (R5.3, R5.4): a node asks the node on its left to pass it over, or goes at once where it
+//! is alone.
 ghost use Rattle.std.specs.Prelude.{◌≡◌};
 ghost use Rattle.node.specs.Actions.{effect, leave_unchecked, leave_of};
 
@@ -8,7 +8,7 @@ use parts::{Kind, Message, Status};
 use refusal::Refusal;
 
 impl Node {
-    // A leave with no test of the node.
+    /// A leave with no test of the node.
     #[tactic(auto, unfolding(crate::specs::Actions::leave_unchecked), using(crate::proofs::ActionLaws::leave_asks))]
     pub fn leave_unchecked(self, me: u8) -> Step
         ensures { effect result ≡ leave_unchecked me self }
@@ -23,6 +23,7 @@ impl Node {
         if !sequence::has_next(last) {
             return self.refuse(Refusal::SequenceSpent);
         }
+        // A node that is in has both links; 0 stands for one in a node that is handed in without.
         let request = Message {
             sender: me,
             to: self.left.unwrap_or(0),

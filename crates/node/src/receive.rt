@@ -1,4 +1,4 @@
-// Receiving a message: any one by its kind, and one of each kind.
+//! Receiving a message: any one by its kind, and one of each kind.
 ghost use Rattle.std.specs.Prelude.{◌≡◌};
 ghost use Rattle.node.specs.Actions.{effect, set_r, set_r_ack, set_r_nak, set_l, act_of, receive_of};
 
@@ -8,8 +8,8 @@ use refusal::Refusal;
 use sequence::Number;
 
 impl Node {
-    // What a node does with a message, by its kind, unless it is out (R5.13): the action alone,
-    // with no test of node or message.
+    /// What a node does with a message, by its kind, unless it is out (R5.13): the action alone,
+    /// with no test of node or message.
     pub fn act(self, me: u8, sender: u8, kind: Kind) -> Step
         ensures { effect result ≡ act_of me self sender kind }
     {
@@ -28,7 +28,7 @@ impl Node {
         }
     }
 
-    // Any message, by its kind.
+    /// Any message, by its kind.
     #[tactic(auto, unfolding(crate::specs::Actions::receive_of))]
     pub fn receive(self, me: u8, message: Message) -> Step
         ensures { effect result ≡ receive_of me self message }
@@ -38,6 +38,9 @@ impl Node {
         }
         self.act(me, message.sender, message.kind)
     }
+
+    // One of each kind, by its fields (R5.5, R5.10, R5.11, R5.12): a form that is fixed. `receive`
+    // takes the struct.
 
     pub fn receive_set_r(
         self,

@@ -1,4 +1,4 @@
-// SetL (R5.12): a notice of a new left link.
+//! SetL (R5.12): a notice of a new left link.
 ghost use Rattle.std.specs.Prelude.{◌≡◌};
 ghost use Rattle.node.specs.Actions.{effect, on_set_l};
 

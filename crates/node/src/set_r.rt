@@ -1,4 +1,4 @@
-// SetR (R5.5, R5.6, R5.7, R5.8, R5.9): a node grants or denies a request to change its right link.
+//! SetR (R5.5, R5.6, R5.7, R5.8, R5.9): a node grants or denies a request to change its right link.
 ghost use Rattle.std.specs.Prelude.{◌≡◌};
 ghost use Rattle.parts.specs.Tests.{seq_of};
 ghost use Rattle.node.specs.Actions.{effect, grants, would_grant, on_set_r};
@@ -8,14 +8,14 @@ use parts::{Kind, Message, Posts, Status};
 use sequence::Number;
 
 impl Node {
-    // The right number; the first number where there is none.
+    /// The right number; the first number where there is none.
     pub(crate) fn right_number(self) -> Number
         ensures { result ≡ seq_of self.rseq }
     {
         self.rseq.unwrap_or(sequence::first())
     }
 
-    // Whether this message, from a sender, is a request that the node would grant.
+    /// Whether this message, from a sender, is a request that the node would grant.
     pub fn would_grant(self, sender: u8, kind: Kind) -> bool
         ensures { result ≡ would_grant self sender kind }
     {
@@ -25,6 +25,8 @@ impl Node {
         }
     }
 
+    // A request comes as its sender and its fields, as the `match` on its kind has them: handed in
+    // whole, it would be matched again where it is known to be a request.
     #[tactic(auto, unfolding(crate::specs::Actions::grants))]
     fn grants_request(self, sender: u8, new: u8, expected: u8) -> bool
         ensures { result ≡ grants self sender new expected }
@@ -59,7 +61,7 @@ impl Node {
         let notice = if new == sender {
             Message {
                 sender: me,
-                to: self.right.unwrap_or(0),
+                to: expected,
                 kind: Kind::SetL {
                     left: sender,
                     number: next,

@@ -1,4 +1,4 @@
-// The tests of what is handed in to a step (R6.12).
+//! The tests of what is handed in to a step (R6.12).
 ghost use Rattle.std.specs.Prelude.{◌≡◌};
 ghost use Rattle.node.specs.Shape.{node_fits, well_formed, deliverable, peer_fits};
 
@@ -6,7 +6,7 @@ use crate::{CAPACITY, Node, Peer};
 use parts::Message;
 
 impl Node {
-    // Whether the node is well formed among the first `count` nodes.
+    /// Whether the node is well formed among the first `count` nodes.
     #[tactic(auto, unfolding(crate::specs::Shape::node_fits))]
     pub fn fits(self, count: u8) -> bool
         ensures { result ≡ node_fits count self }

@@ -1,5 +1,5 @@
-// What a step answers, of the node that it leaves behind: a refusal, an outcome with no message, an
-// outcome with one.
+//! What a step answers, of the node that it leaves behind: a refusal, an outcome with no message,
+//! an outcome with one.
 ghost use Rattle.std.specs.Prelude.{◌≡◌};
 ghost use Rattle.refusal.specs.Code.{reason};
 ghost use Rattle.node.specs.Actions.{effect, refused, quiet, posting, with_status};

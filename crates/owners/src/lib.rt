@@ -1,7 +1,8 @@
-// Which node owns a serial (docs/RULES.md, section 7), for every network: the walk along right
-// links from a start that is inserted, and what is refused before it. What this comes to on a
-// well-formed network's lists is proved in `proofs/`; whether a network is well formed is tested in
-// a crate above.
+//! Which node owns a serial (docs/RULES.md, section 7), for every network: the walk along right
+//! links from a start that is inserted, and what is refused before it. What this comes to on a
+//! well-formed network's lists is proved in `proofs/`; whether a network is well formed is tested
+//! in a crate above. A network, a start and a serial are the question: a struct of the three would
+//! be made at each door and taken apart in the walk.
 #![tactic(auto)]
 
 ghost use Rattle.std.specs.Prelude.{◌≡◌};
@@ -32,7 +33,7 @@ fn walk(network: &Network, start: u8, serial: u32) -> Answer
     Err(Refusal::OwnerNotFound)
 }
 
-// The owner of a serial from a start.
+/// The owner of a serial from a start.
 pub fn owner(network: &Network, start: u8, serial: u32) -> Answer
     ensures { answered result ≡ owner_in network.now start serial }
 {
@@ -45,7 +46,7 @@ pub fn owner(network: &Network, start: u8, serial: u32) -> Answer
     walk(network, start, serial)
 }
 
-// The same as a record asks it, whose serial may be refused at its turn, after the start (R9.6).
+/// The same as a record asks it, whose serial may be refused at its turn, after the start (R9.6).
 pub fn owner_of_record(network: &Network, start: u8, serial: Result<u32, SerialError>) -> Answer
     ensures { answered result ≡ owner_asked network.now start serial }
 {

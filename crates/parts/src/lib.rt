@@ -1,6 +1,6 @@
-// What a node and a message are put together from (R1.3, R1.6): a status, a link, a right number, a
-// kind; the message itself; and what a step posts. Their tests are here too, among them whether a
-// link or a message is well formed among so many nodes.
+//! What a node and a message are put together from (R1.3, R1.6): a status, a link, a right number,
+//! a kind; the message itself; and what a step posts. Their tests are here too, among them whether
+//! a link or a message is well formed among so many nodes.
 #![tactic(auto)]
 
 use sequence::Number;
@@ -18,10 +18,10 @@ pub enum Status {
     Del,
 }
 
-// A link to a node, by its number, where there is one.
+/// A link to a node, by its number, where there is one.
 pub type Link = Option<u8>;
 
-// A right number, which a node may lack.
+/// A right number, which a node may lack.
 pub type Seq = Option<Number>;
 
 #[derive(Clone, Copy, Debug, PartialEq, Eq)]
@@ -48,7 +48,8 @@ pub struct Message {
     pub kind: Kind,
 }
 
-// What a step posts, in this order.
+/// What a step posts, in this order: a list of two at most, which is `Copy` as a step is, and as an
+/// `ArrayVec` is not.
 #[derive(Clone, Copy, Debug, PartialEq, Eq)]
 pub enum Posts {
     Nothing,

@@ -1,4 +1,4 @@
-// Whether a link, the links of a node, or a message are well formed among the first `count` nodes.
+//! Whether a link, the links of a node, or a message are well formed among the first `count` nodes.
 ghost use Rattle.std.specs.Prelude.{◌≡◌};
 ghost use Rattle.parts.specs.Shape.{link_fits, links_fit, kind_fits, message_fits};
 
@@ -10,7 +10,7 @@ pub fn link_fits(link: Link, count: u8) -> bool
     link.is_none_or(|n| n < count)
 }
 
-// The links and the right number of a node of this status.
+/// The links and the right number of a node of this status.
 pub fn links_fit(status: Status, left: Link, right: Link, rseq: Seq, count: u8) -> bool
     ensures { result ≡ links_fit count status left right rseq }
 {
@@ -30,7 +30,7 @@ fn kind_fits(kind: Kind, count: u8) -> bool
 }
 
 impl Message {
-    // Whether the message is well formed among the first `count` nodes.
+    /// Whether the message is well formed among the first `count` nodes.
     #[tactic(auto, unfolding(crate::specs::Shape::message_fits))]
     pub fn fits(self, count: u8) -> bool
         ensures { result ≡ message_fits count self }

@@ -1,4 +1,4 @@
-// Tests of a kind of message, and how many messages a step posts.
+//! Tests of a kind of message, and how many messages a step posts.
 ghost use Rattle.std.specs.Prelude.{◌≡◌, length};
 ghost use Rattle.parts.specs.Tests.{is_ack, is_notice};
 ghost use Rattle.parts.specs.Posts.{posted};
@@ -20,7 +20,7 @@ impl Kind {
 }
 
 impl Posts {
-    // How many messages these are.
+    /// How many messages these are.
     pub fn count(self) -> u8
         ensures { result ≡ length (posted self) }
     {

@@ -8,7 +8,8 @@ abbrev pub bit : Bool → ℕ
 bit true = 1
 bit false = 0
 
--- R2.7, R10.5, R10.6, R10.9: how many of l pass the test
+-- R2.7, R10.5, R10.6, R10.9: how many of l pass the test; not std's `count_by`, since the laws of
+-- the ring go by these two cases
 abbrev pub count : {A : Type 0} → (A → Bool) → List A → ℕ
 count test [] = 0
 count test (x ∷ l) = bit (test x) + count test l

@@ -1,2 +1,2 @@
-// No code: laws of tests that the proofs of several crates cite. They stand in proofs/Laws.antt.
+//! No code: laws of tests that the proofs of several crates cite (`proofs/`).
 #![tactic(auto)]

@@ -1,12 +1,13 @@
-// The lines of the printout (R9.7, R9.8), each appended to the text. Where forty bytes find no room
-// nothing is written: no line has more, whatever its numbers, so nothing is asked of the caller.
+//! The lines of the printout (R9.7, R9.8), each appended to the text. Where forty bytes find no
+//! room nothing is written: no line has more, whatever its numbers, so nothing is asked of the
+//! caller.
 #![tactic(auto)]
 
 ghost use Rattle.std.specs.Prelude.{◌≡◌, ◌+◌, ◌≤◌, ◌++◌, length};
 ghost use Rattle.refusal.specs.Code.{reason};
 ghost use Rattle.refusal.specs.Rules.{done, no};
 ghost use Rattle.printout.specs.Lines.{pair, reply_words, line_of, last_line};
-ghost use Rattle.printout.specs.Writing.{printed};
+ghost use Rattle.printout.specs.Writing.{printed, LongerByALine};
 
 use protocol::Reply;
 use refusal::Refusal;
@@ -46,10 +47,10 @@ fn put_reply<const N: usize>(text: &mut Page<N>, reply: Reply)
     }
 }
 
-// The line of a record that is done.
+/// The line of a record that is done.
 pub fn reply_line<const N: usize>(text: &mut Page<N>, ordinal: u32, reply: Reply)
     ensures text_after { text.new ≡ printed N text.old (line_of ordinal (done reply)) }
-    ensures short { length text.new ≤ length text.old + 40 }
+    ensures short { LongerByALine text.old text.new }
 {
     if text.has_room(LINE) {
         text.append_decimal(ordinal);
@@ -59,10 +60,11 @@ pub fn reply_line<const N: usize>(text: &mut Page<N>, ordinal: u32, reply: Reply
     }
 }
 
-// The line of a record that is refused.
+/// The line of a record that is refused. Not one function with the last: a refusal is told where a
+/// `let .. else` has taken its answer apart (R11.6).
 pub fn refusal_line<const N: usize>(text: &mut Page<N>, ordinal: u32, refusal: Refusal)
     ensures text_after { text.new ≡ printed N text.old (line_of ordinal (no (reason refusal))) }
-    ensures short { length text.new ≤ length text.old + 40 }
+    ensures short { LongerByALine text.old text.new }
 {
     if text.has_room(LINE) {
         text.append_decimal(ordinal);
@@ -72,10 +74,10 @@ pub fn refusal_line<const N: usize>(text: &mut Page<N>, ordinal: u32, refusal: R
     }
 }
 
-// The last line, from the messages that wait and all that were ever posted.
+/// The last line, from the messages that wait and all that were ever posted.
 pub fn last_line<const N: usize>(text: &mut Page<N>, waiting: u8, posted: u32)
     ensures text_after { text.new ≡ printed N text.old (last_line waiting posted) }
-    ensures short { length text.new ≤ length text.old + 40 }
+    ensures short { LongerByALine text.old text.new }
 {
     if text.has_room(LINE) {
         put_pair(text, b"end ", u16::from(waiting), b" posted ", posted);

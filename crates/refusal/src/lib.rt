@@ -1,12 +1,12 @@
-// The refusals (docs/RULES.md, section 6): a named case for each number, the number of a case, and
-// rules of refusal in their order (R6.1).
+//! The refusals (docs/RULES.md, section 6): a named case for each number, the number of a case, and
+//! rules of refusal in their order (R6.1).
 #![tactic(auto)]
 
 ghost use Rattle.std.specs.Prelude.{◌≡◌, cond, Some, None};
 ghost use Rattle.refusal.specs.Code.{code, reason};
 ghost use Rattle.refusal.specs.Rules.{checked};
 
-// No case carries anything but its number.
+/// No case carries anything but its number.
 #[derive(Clone, Copy, Debug, PartialEq, Eq)]
 pub enum Refusal {
     // From the input.
@@ -33,6 +33,8 @@ pub enum Refusal {
 }
 
 impl Refusal {
+    /// The number of a refusal. By name, and not as a `From`: `u8::from(refusal)` does not say
+    /// which number it is.
     pub fn number(self) -> u8
         ensures { result ≡ code self }
     {
@@ -40,7 +42,7 @@ impl Refusal {
     }
 }
 
-// One rule of a call, which goes on with `?` where it does not refuse.
+/// One rule of a call, which goes on with `?` where it does not refuse.
 pub fn refuse_if(refuses: bool, refusal: Refusal) -> Result<(), Refusal>
     ensures { checked result ≡ cond refuses (Some (reason refusal)) None }
 {

@@ -1,5 +1,5 @@
-// What is told of a call, a question or a drain, and the tally that a drain keeps of its
-// deliveries.
+//! What is told of a call, a question or a drain, and the tally that a drain keeps of its
+//! deliveries.
 #![tactic(auto)]
 
 ghost use Rattle.std.specs.Prelude.{◌≡◌, ◌+◌, ◌%◌, ◌^◌, ◌&&◌, nat_lt};
@@ -11,7 +11,7 @@ ghost use Rattle.protocol.specs.Answer.{answered};
 use protocol::{Answer, Reply};
 use refusal::Refusal;
 
-// The answer, and how many messages were posted.
+/// The answer, and how many messages were posted.
 #[derive(Clone, Copy, Debug, PartialEq, Eq)]
 pub struct Report {
     pub answer: Answer,
@@ -19,7 +19,7 @@ pub struct Report {
 }
 
 impl Report {
-    // What is only told: nothing is posted.
+    /// What is only told: nothing is posted.
     pub fn told(answer: Answer) -> Report
         ensures { (answered result.answer ≡ answered answer) × (result.posted ≡ 0) }
     {
@@ -33,7 +33,7 @@ impl Report {
     }
 }
 
-// What a drain has done so far: the deliveries made, and the messages that they posted.
+/// What a drain has done so far: the deliveries made, and the messages that they posted.
 #[derive(Clone, Copy, Debug, Default, PartialEq, Eq)]
 pub struct Tally {
     pub made: u16,
@@ -41,15 +41,15 @@ pub struct Tally {
 }
 
 impl Tally {
-    // Whether a drain goes on (R8.1), with so many messages waiting.
+    /// Whether a drain goes on (R8.1), with so many messages waiting.
     pub fn goes_on(self, budget: u16, waiting: u8) -> bool
         ensures { result ≡ (nat_lt self.made budget && nat_lt 0 waiting) }
     {
         (self.made < budget) & (0 < waiting)
     }
 
-    // One delivery more. Counts wrap, so that nothing is asked of the caller; those of a drain stay
-    // far below.
+    /// One delivery more. Counts wrap, so that nothing is asked of the caller; those of a drain
+    /// stay far below.
     pub fn tallied(self, report: Report) -> Tally
         ensures { (result.made ≡ (self.made + 1) % 2 ^ 16) × (result.posted ≡ (self.posted + report.posted) % 2 ^ 32) }
     {

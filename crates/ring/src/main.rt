@@ -1,37 +1,19 @@
-// The ring program (R9.9): a script on standard input, its printout on standard output. One byte
-// more than a script may have is asked for, so that a longer one shows. A script that cannot be
-// read, and a printout that cannot be written, is told on standard error, and the exit status is 1.
-// Where the reader of the printout stops before its end nothing is told.
+//! The ring program (R9.9): a script on standard input, its printout on standard output. A script
+//! that cannot be read, and a printout that cannot be written, is told on standard error, and the
+//! exit status is 1. Where the reader of the printout stops before its end nothing is told.
 #![tactic(auto)]
 
-ghost use Rattle.std.specs.Prelude.{◌≤◌, length, IfOk};
-
+use arrayvec::ArrayVec;
 use std::io::{self, ErrorKind, Read};
 use std::process::ExitCode;
 use text::Page;
 
+// How many bytes are read: one more than a script may have, so that a longer one shows.
+const MOST: usize = engine::SIZE_LIMIT + 1;
+
 // The status where the pipe behind standard output is broken: what a shell tells of a program that
 // the signal SIGPIPE ends, 128 and its number.
 const BROKEN_PIPE: u8 = 141;
-
-// Reads until the input ends or the buffer is full: a read then has no room, and answers 0 as at
-// the end. A pipe hands out a piece at a time, and a read that a signal interrupts is made again.
-// Nothing says how often, so the turns are counted, up to a number that no run uses up. (`read_to_end`
-// wants the heap.)
-fn read_script(reader: &mut impl Read, script: &mut [u8]) -> io::Result<usize>
-    ensures { IfOk result (λ size. size ≤ length script.new) }
-{
-    let mut size = 0;
-    for _ in 0..u64::MAX {
-        match reader.read(&mut script[size..]) {
-            Ok(0) => return Ok(size),
-            Ok(got) => size += got,
-            Err(error) if error.kind() == ErrorKind::Interrupted => {}
-            Err(error) => return Err(error),
-        }
-    }
-    Err(ErrorKind::Interrupted.into())
-}
 
 fn fail(rt: &impl Eprint, what: &str) -> ExitCode {
     let _ = eprintln!(rt; "ring: {what}");
@@ -47,12 +29,12 @@ fn write_printout(rt: &(impl Print + Eprint), text: &[u8]) -> ExitCode {
 }
 
 fn main(rt: HostRuntime) -> ExitCode {
-    let mut script = [0; 65_537];
+    let mut script = ArrayVec::<u8, MOST>::new();
     // Before the reading: its memory would else be cleared twice.
     let mut text = Page::new();
-    let Ok(size) = read_script(&mut rt.stdin(), &mut script) else {
+    if io::copy(&mut rt.stdin().take(MOST as u64), &mut script).is_err() {
         return fail(&rt, "the script cannot be read");
-    };
-    engine::printout(&script[..size], &mut text);
+    }
+    engine::printout(&script, &mut text);
     write_printout(&rt, text.as_bytes())
 }

@@ -1,7 +1,7 @@
 -- No rules stand here: it is what the code decides from the values that it looks at, by tests in
 -- the order of the rules. The rules are those of the crate `protocol`, and that these decisions
 -- come to them is proved in the crate `engine`. Definitions only.
-use Rattle.std.specs.Prelude.{ℕ, ◌-◌, Bool, not, ◌&&◌, cond, List, [], ◌∷◌, ltb, Option, None, Some}
+use Rattle.std.specs.Prelude.{ℕ, ◌-◌, Bool, not, ◌&&◌, cond, List, [], ◌∷◌, ltb, Option, Some}
 use Rattle.refusal.specs.Code.{Reason, plain}
 use Rattle.refusal.specs.Rules.{Rule, ◌when◌, first, unless_refused, ruled}
 use Rattle.serial.specs.Serial.{in_range}
@@ -29,12 +29,8 @@ declare_decision key count taken = ruled (declare_tests key count taken) turned_
 abbrev pub create_tests : Found → List Rule
 create_tests found = (22 when found.standing) ∷ (25 when found.notice) ∷ []
 
--- then what its step refuses
-abbrev pub create_checks : ℕ → ℕ → Node → Found → Option Reason
-create_checks u count node found = unless (ltb u count) (unless_refused (first (create_tests found)) Some (after_step (create_of u node).said None))
-
 abbrev pub create_decision : ℕ → ℕ → Node → Found → Decided
-create_decision u count node found = unless_refused (create_checks u count node found) turned_away (stepping u (create_of u node))
+create_decision u count node found = unless_refused (unless (ltb u count) (first (create_tests found))) turned_away (stepping u (create_of u node))
 
 -- the step of a join, between the nodes in sight
 abbrev pub join_step : ℕ → ℕ → ℕ → Sight → Effect
@@ -68,9 +64,5 @@ receive_step a = act_of a.message.to a.node a.message.sender a.message.kind
 abbrev pub deliver_tests : ℕ → Arrival → List Rule
 deliver_tests place a = (29 when not (ltb place a.waiting)) ∷ room_tests (a.waiting - 1) (receive_step a).posts
 
--- and then what its step refuses
-abbrev pub deliver_checks : ℕ → Arrival → Option Reason
-deliver_checks place a = unless_refused (first (deliver_tests place a)) Some (after_step (receive_step a).said None)
-
 abbrev pub delivery_decision : ℕ → Arrival → Decided
-delivery_decision place a = unless_refused (deliver_checks place a) turned_away (delivering place a.message.to (receive_step a))
+delivery_decision place a = ruled (deliver_tests place a) turned_away (delivering place a.message.to (receive_step a))

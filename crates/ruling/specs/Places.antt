@@ -1,7 +1,7 @@
 -- No rules stand here: it is how the code looks for the place where a drain delivers next. That
 -- this is the lowest place where a delivery on a well-formed network is not refused is proved in
 -- the crate `engine`. Definitions only.
-use Rattle.std.specs.Prelude.{ℕ, zero, suc, Bool, not, ◌||◌, cond, ltb}
+use Rattle.std.specs.Prelude.{ℕ, zero, suc, Bool, not, ◌||◌, cond, ltb, Option, None, Some}
 use Rattle.node.specs.Actions.{would_grant}
 use Rattle.protocol.specs.State.{queue_limit}
 use Rattle.network.specs.declared.Network.{Network}
@@ -16,9 +16,9 @@ abbrev pub finds_room : Network → ℕ → Bool
 finds_room n place = ltb n.waiting queue_limit || not (grantable (arrival_of n place))
 
 -- the first of the k places from `place` on where it does
-abbrev pub lowest_place_from : Network → ℕ → ℕ → ℕ
-lowest_place_from n place zero = 0
-lowest_place_from n place (suc k) = cond (finds_room n place) place (lowest_place_from n (suc place) k)
+abbrev pub lowest_place_from : Network → ℕ → ℕ → Option ℕ
+lowest_place_from n place zero = None
+lowest_place_from n place (suc k) = cond (finds_room n place) (Some place) (lowest_place_from n (suc place) k)
 
-abbrev pub lowest_place : Network → ℕ
+abbrev pub lowest_place : Network → Option ℕ
 lowest_place n = lowest_place_from n 0 n.waiting

@@ -1,6 +1,6 @@
-// What a call on any network comes to: what its rules look at is read where the network lies
-// (`access`, `searches`), and the decision is made from that (`rules`). Nothing is changed. That on
-// a well-formed network it is what the crate `protocol` says is proved in the crate `engine`.
+//! What a call on any network comes to: what its rules look at is read where the network lies
+//! (`access`, `searches`), and the decision is made from that (`rules`). Nothing is changed. That
+//! on a well-formed network it is what the crate `protocol` says is proved in the crate `engine`.
 #![tactic(auto)]
 
 ghost use Rattle.std.specs.Prelude.{◌≡◌};
@@ -16,7 +16,7 @@ mod places;
 
 pub use places::lowest;
 
-// What a call comes to, from what it looks at.
+/// What a call comes to, from what it looks at.
 #[inline(always)]
 #[tactic(auto, unfolding(crate::specs::Rulings::decision_on))]
 pub fn decide(network: &Network, call: Call) -> Result<Decision, Refusal>

@@ -1,4 +1,4 @@
-// Where a drain delivers next (R8.1), on any network.
+//! Where a drain delivers next (R8.1), on any network.
 ghost use Rattle.std.specs.Prelude.{◌≡◌};
 ghost use Rattle.ruling.specs.Places.{finds_room, lowest_place};
 
@@ -14,15 +14,15 @@ fn finds_room(network: &Network, place: u8) -> bool
     (network.waiting < QUEUE_LIMIT) | !arrival.node.would_grant(message.sender, message.kind)
 }
 
-// The lowest place where a delivery finds room; 0 where there is none. Not by `find`: what it ensures of a
-// range did not lead to the definition.
-pub fn lowest(network: &Network) -> u8
+/// The lowest place where a delivery finds room. Not by `find`: what it ensures of a range did not
+/// lead to the definition.
+pub fn lowest(network: &Network) -> Option<u8>
     ensures { result ≡ lowest_place network.now }
 {
     for place in 0..network.waiting {
         if finds_room(network, place) {
-            return place;
+            return Some(place);
         }
     }
-    0
+    None
 }

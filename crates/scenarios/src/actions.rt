@@ -1,5 +1,5 @@
-// What nodes do where messages come late, overtake each other, or find their node changed. No
-// script has an answer dropped: none waits for a node that is out or in (R2.7).
+//! What nodes do where messages come late, overtake each other, or find their node changed. No
+//! script has an answer dropped: none waits for a node that is out or in (R2.7).
 pub(crate) const NOTICES: [&[u8]; 5] = [
     // R5.6, R5.7, R5.12: three nodes come in on the left of node 0, one behind the other. Each
     // notice is newer, so that node 0 asks the last of them.

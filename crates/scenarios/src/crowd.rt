@@ -1,6 +1,6 @@
-// The parts of scripts that are long because they repeat: all 32 nodes are declared, many of them
-// join, and some leave again, while most of the messages that this posts go on waiting. Each
-// function puts records behind those that a script has.
+//! The parts of scripts that are long because they repeat: all 32 nodes are declared, many of them
+//! join, and some leave again, while most of the messages that this posts go on waiting. Each
+//! function puts records behind those that a script has.
 ghost use Rattle.std.specs.Prelude.{◌≤◌};
 
 use crate::{Run, line_end};
@@ -9,16 +9,16 @@ use text::Page;
 
 pub(crate) type Script = Page<4096>;
 
-// Node i has the key 32 - i. The keys fall, so that each node may join between node 0 and the node
-// before it.
+/// Node i has the key 32 - i. The keys fall, so that each node may join between node 0 and the node
+/// before it.
 pub(crate) fn declare_all(script: &mut Script) {
     for node in 0..32 {
         script.append(&[b'B', b'N', 32 - node, 0, 0, 0]);
     }
 }
 
-// Node 0 is created, and nodes 1 to `last` ask it to join. Delivered in this order each is granted,
-// since it names as right neighbour the node that came in before it.
+/// Node 0 is created, and nodes 1 to `last` ask it to join. Delivered in this order each is
+/// granted, since it names as right neighbour the node that came in before it.
 pub(crate) fn ask_all(script: &mut Script, last: u8) {
     script.append(b"CR\x00");
     for before in 0..last {
@@ -40,7 +40,7 @@ fn leave_again(script: &mut Script, last: u8, leavers: u8)
     }
 }
 
-// Shows a script that begins with the records put so far, and goes on with those behind a title.
+/// Shows a script that begins with the records put so far, and goes on with those behind a title.
 pub(crate) fn show_on<R: Print>(
     run: &mut Run<R>,
     script: &mut Script,
@@ -51,9 +51,9 @@ pub(crate) fn show_on<R: Print>(
     run.show(title, script.as_bytes())
 }
 
-// Shows a script that begins with joins and leaves. RD delivers just the requests to join. Then 2 *
-// joiners messages wait: of node i the left notice to its right at 2 * i - 2, and the answer at 2 *
-// i - 1. After the leaves 2 * joiners + leavers wait.
+/// Shows a script that begins with joins and leaves. RD delivers just the requests to join. Then
+/// two messages wait for each joiner: of node i the left notice to its right at place 2 * i - 2,
+/// and the answer at 2 * i - 1. After the leaves one more waits for each leaver.
 pub(crate) fn scene_after<R: Print>(
     run: &mut Run<R>,
     joiners: u8,

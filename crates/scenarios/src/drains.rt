@@ -1,4 +1,4 @@
-// Where a drain ends, and what it delivers.
+//! Where a drain ends, and what it delivers.
 use crate::{Run, crowd};
 use std::io;
 

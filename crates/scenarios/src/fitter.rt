@@ -1,4 +1,4 @@
-// The fitter's cases of paper 01 that it does not mark †.
+//! The fitter's cases of paper 01 that it does not mark †.
 use crate::{Run, crowd};
 use std::io;
 

@@ -1,5 +1,5 @@
-// The refusals from the input. Only 1 and 2 stop the reading: after each of the others but 7 a
-// later record is done (R9.5).
+//! The refusals from the input. Only 1 and 2 stop the reading: after each of the others but 7 a
+//! later record is done (R9.5).
 use crate::Run;
 use std::io;
 
@@ -78,13 +78,11 @@ pub(crate) const FIELDS: [&[u8]; 5] = [
       OC\x00\x00\x00\x00\x09",
 ];
 
-// R9.1, refusal 7: both scripts begin with a declaration and go on with zeros, which are no mark.
+/// R9.1, refusal 7: both scripts begin with a declaration and go on with zeros, which are no mark.
 pub(crate) fn sizes<R: Print>(run: &mut Run<R>) -> io::Result<()> {
     let declaration = b"BC\x00\x00\x10\x00";
     let mut too_long = [0u8; 65_537];
     too_long[..6].copy_from_slice(declaration);
     run.show(b"no 7: 65,537 bytes\n", &too_long)?;
-    let mut longest = [0u8; 65_536];
-    longest[..6].copy_from_slice(declaration);
-    run.show(b"65,536 bytes are read\n", &longest)
+    run.show(b"65,536 bytes are read\n", &too_long[..65_536])
 }

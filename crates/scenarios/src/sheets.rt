@@ -1,5 +1,5 @@
-// The sheets of the folder `examples`, one record to a line. There each record has a comment that
-// says what it does, and beside each sheet stands its printout, which is the same.
+//! The sheets of the folder `examples`, one record to a line. There each record has a comment that
+//! says what it does, and beside each sheet stands its printout, which is the same.
 pub(crate) const ALL: [&[u8]; 4] = [
     // R5.5, R5.9, R5.11: node 0 asks to leave before it has heard of its left neighbour, and so
     // asks and denies itself.

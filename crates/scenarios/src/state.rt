@@ -1,5 +1,5 @@
-// The refusals from the state; 20 is among the fitter's cases. After each of them a later record is
-// done.
+//! The refusals from the state; 20 is among the fitter's cases. After each of them a later record
+//! is done.
 use crate::{Run, crowd};
 use std::io;
 

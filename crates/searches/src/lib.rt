@@ -1,5 +1,5 @@
-// What only a search of a network's nodes or messages tells, for every network: whether a node has a
-// key, whether some node is not out, and whether a notice to a node waits.
+//! What only a search of a network's nodes or messages tells, for every network: whether a node has
+//! a key, whether some node is not out, and whether a notice to a node waits.
 #![tactic(auto)]
 
 ghost use Rattle.std.specs.Prelude.{◌≡◌};
@@ -9,9 +9,9 @@ use network::Network;
 use parts::Status;
 use protocol::Order;
 
-// What is found: whether a node has the key that is declared, whether some node is not out, and
-// whether a notice to a node waits. What an order does not ask is false. Three answers side by side:
-// none is the value of another.
+/// What is found: whether a node has the key that is declared, whether some node is not out, and
+/// whether a notice to a node waits. What an order does not ask is false. Three answers side by
+/// side: none is the value of another.
 #[derive(Clone, Copy, Debug, Default, PartialEq, Eq)]
 pub struct Found {
     pub taken: bool,
@@ -44,7 +44,7 @@ fn notice_waits(network: &Network, node: u8) -> bool
         .any(|message| message.kind.is_notice() && message.to == node)
 }
 
-// What an order's search finds. Only an order that asks for one pays for it.
+/// What an order's search finds. Only an order that asks for one pays for it.
 pub fn find(network: &Network, order: Order) -> Found
     ensures { result ≡ found_of network.now order }
 {

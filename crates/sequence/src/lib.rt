@@ -1,13 +1,14 @@
-// Sequence numbers (R1.2): made, compared and advanced here and nowhere else.
+//! Sequence numbers (R1.2): made, compared and advanced here and nowhere else.
 #![tactic(auto, unfolding(crate::specs::Sequence::first_seq, crate::specs::Sequence::last_seq, crate::specs::Sequence::next_seq, crate::specs::Sequence::same, crate::specs::Sequence::newer, crate::specs::Sequence::has_next, crate::specs::Sequence::capped_next))]
 
 ghost use Rattle.std.specs.Prelude.{◌≡◌};
 ghost use Rattle.sequence.specs.Sequence.{first_seq, same, newer, has_next, capped_next};
 
-// Compared by the functions below, and not by `==` and `<`: a number is to become a pair.
+/// Which of two is newer, and what comes next, the functions below say and nothing else: a number
+/// is to become a pair.
 pub type Number = u16;
 
-// The first number, for constants: a constant's value can call no function.
+/// The first number, for constants: a constant's value can call no function.
 pub const FIRST: Number = 0;
 
 pub fn first() -> Number
@@ -16,6 +17,7 @@ pub fn first() -> Number
     FIRST
 }
 
+/// No crate asks it, since `==` compares whole nodes: it is what the rule of R1.2 is shown by.
 pub fn is_same(n: Number, m: Number) -> bool
     ensures { result ≡ same n m }
 {
@@ -37,5 +39,5 @@ pub fn has_next(n: Number) -> bool
 pub fn capped_next(n: Number) -> Number
     ensures { result ≡ capped_next n }
 {
-    if n < 65_535 { n + 1 } else { 65_535 }
+    n.saturating_add(1)
 }

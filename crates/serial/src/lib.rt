@@ -1,15 +1,15 @@
-// A cell's serial (R1.1), from each of the forms that reach us: four bytes of packed BCD or of
-// binary (R9.4), a number handed in. Each reader is total: it answers the serial, or what is wrong
-// with it, for every input.
+//! A cell's serial (R1.1), from each of the forms that reach us: four bytes of packed BCD or of
+//! binary (R9.4), a number handed in. Each reader is total: it answers the serial, or what is wrong
+//! with it, for every input.
 #![tactic(auto)]
 
 ghost use Rattle.std.specs.Prelude.{◌≡◌, ◌+◌, ◌*◌, ◌/◌, ◌%◌, ◌<◌, ◌&&◌, leb};
 ghost use Rattle.std.specs.List.{list_all};
-ghost use Rattle.serial.specs.Serial.{in_range, refusal_of, handed_of, packed_of, binary_of, positional, digits, all_decimal};
+ghost use Rattle.serial.specs.Serial.{in_range, refusal_of, handed_of, packed_of, binary_of, positional, digits};
 
 use refusal::Refusal;
 
-// Why there is no serial: refusal 3 or 4, and no other.
+/// Why there is no serial: refusal 3 or 4, and no other.
 #[derive(Clone, Copy, Debug, PartialEq, Eq)]
 pub enum SerialError {
     BadDigit,
@@ -33,7 +33,7 @@ pub fn in_range(value: u32) -> bool
     value <= 99_999_999
 }
 
-// A serial handed in as a number.
+/// A serial handed in as a number.
 pub fn handed(value: u32) -> Result<u32, SerialError>
     ensures { result ≡ handed_of value }
 {
@@ -44,7 +44,7 @@ pub fn handed(value: u32) -> Result<u32, SerialError>
     }
 }
 
-// Binary, low byte first.
+/// Binary, low byte first.
 #[tactic(auto, using(crate::proofs::Bytes::low_first))]
 pub fn binary(bytes: [u8; 4]) -> Result<u32, SerialError>
     ensures { result ≡ binary_of bytes }
@@ -72,7 +72,7 @@ fn packed_value(bytes: [u8; 4]) -> u32
     pair(a) * 1_000_000 + pair(b) * 10_000 + pair(c) * 100 + pair(d)
 }
 
-// Packed BCD, high digits first.
+/// Packed BCD, high digits first.
 #[tactic(auto, using(crate::proofs::Bytes::each_packed))]
 pub fn packed(bytes: [u8; 4]) -> Result<u32, SerialError>
     ensures { result ≡ packed_of bytes }

@@ -1,6 +1,6 @@
-// A record of a script as a task: what a network is asked, or the refusal that is only told. A
-// serial that is refused at its turn has become its refusal where nothing comes before it, and what
-// cannot be read is told too.
+//! A record of a script as a task: what a network is asked, or the refusal that is only told, as of
+//! what cannot be read. A declaration whose serial is refused is that refusal; an owner's serial
+//! stays as it was read, since what is refused of the start comes first.
 #![tactic(auto)]
 
 ghost use Rattle.std.specs.Prelude.{◌≡◌, length};
@@ -12,7 +12,7 @@ use refusal::Refusal;
 use script::Record;
 use serial::SerialError;
 
-// What a network is asked: a call, the owner of a serial, a drain.
+/// What a network is asked: a call, the owner of a serial, a drain.
 #[derive(Clone, Copy, Debug, PartialEq, Eq)]
 pub enum Task {
     Call(Call),
@@ -23,7 +23,7 @@ pub enum Task {
     Drain(u16),
 }
 
-// What is read at a cursor: the task, or the refusal to be told; and the cursor after it.
+/// What is read at a cursor: the task, or the refusal to be told; and the cursor after it.
 #[derive(Clone, Copy, Debug, PartialEq, Eq)]
 pub struct Asked {
     pub task: Result<Task, Refusal>,
@@ -45,8 +45,8 @@ impl TryFrom<Record> for Task {
     }
 }
 
-// What is asked at a cursor of a script; at the end, where nobody asks, it is as if a record were
-// cut short.
+/// What is asked at a cursor of a script; at the end, where nobody asks, it is as if a record were
+/// cut short.
 #[inline(always)]
 pub fn ask(script: &[u8], at: usize) -> Asked
     ensures { Asks (length script.now) (read_at script.now at) result }

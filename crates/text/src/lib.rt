@@ -1,5 +1,5 @@
-// Text in fixed memory: a page, to which pieces of bytes and numbers in decimal are appended. A
-// piece that finds no room is left out whole, so no function asks anything of its caller.
+//! Text in fixed memory: a page, to which pieces of bytes and numbers in decimal are appended. A
+//! piece that finds no room is left out whole, so no function asks anything of its caller.
 #![tactic(auto)]
 
 ghost use Rattle.std.specs.Prelude.{◌≡◌, ◌+◌, ◌≤◌, leb, length, []};
@@ -8,8 +8,8 @@ ghost use Rattle.text.specs.Pages.{appended};
 
 use std::marker::Model;
 
-// At most N bytes of text. Clauses see the bytes that were appended. No `ArrayVec` of the kit: with one
-// inside a record costs 5 to 12 instructions more.
+/// At most N bytes of text. Clauses see the bytes that were appended. No `ArrayVec` of the kit: one
+/// inside costs each record of a script 5 to 12 instructions more.
 #[derive(Drop)]
 pub struct Page<const N: usize> {
     bytes: [u8; N],
@@ -44,7 +44,7 @@ impl<const N: usize> Page<N> {
         &self.bytes[..self.len]
     }
 
-    // Whether so many bytes more find room.
+    /// Whether so many bytes more find room.
     pub fn has_room(&self, bytes: usize) -> bool
         ensures { result ≡ leb (length self.now + bytes) N }
     {

@@ -1,4 +1,4 @@
-// The words for what a step did (R9.7).
+//! The words for what a step did (R9.7).
 #![tactic(auto)]
 
 ghost use Rattle.std.specs.Prelude.{◌≡◌};
@@ -6,7 +6,8 @@ ghost use Rattle.words.specs.Words.{outcome_word};
 
 use node::Outcome;
 
-// The word for an outcome. No `impl Display`: that a `write!` answers `Ok` is promised nowhere.
+/// The word for an outcome. No `impl Display`: that a `write!` answers `Ok` is promised nowhere,
+/// and so no byte of a line could be.
 pub fn word(outcome: Outcome) -> &'static [u8]
     ensures { result.now ≡ outcome_word outcome }
 {
