@@ -87,7 +87,7 @@ impl Throw {
     }
 
     /// An element of a list.
-    pub(crate) fn one<T: Copy, const N: usize>(self, purpose: Purpose, list: [T; N]) -> T
+    pub(crate) fn pick<T: Copy, const N: usize>(self, purpose: Purpose, list: [T; N]) -> T
         requires { (0 < N) × (N < 2 ^ 32) }
     {
         list[self.below(purpose, N as u32) as usize]

@@ -54,7 +54,7 @@ const TEMPERS: [Temper; 6] = [
 
 impl Temper {
     fn of(mood: Throw) -> Temper {
-        mood.one(Purpose::Temper, TEMPERS)
+        mood.pick(Purpose::Temper, TEMPERS)
     }
 
     // For each of the marks a share of a hundred, in the order of `MARKS`: with its mark beside
@@ -346,7 +346,7 @@ impl Draw<'_> {
     }
 
     fn no_mark(&self, byte: u8) -> Piece {
-        let [first, second] = self.throw.one(Purpose::FaultyField, NO_MARKS);
+        let [first, second] = self.throw.pick(Purpose::FaultyField, NO_MARKS);
         Piece::NoMark([first, second, byte])
     }
 
@@ -367,7 +367,7 @@ impl Draw<'_> {
         } else {
             some
         };
-        Piece::Record(match throw.one(Purpose::FaultyMark, MARKS) {
+        Piece::Record(match throw.pick(Purpose::FaultyMark, MARKS) {
             Mark::Bc => Record::Declare(self.faulty_packed()),
             Mark::Bn => Record::Declare(self.faulty_binary()),
             Mark::Cr => Record::Create { node: maybe },
