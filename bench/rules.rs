@@ -121,11 +121,11 @@ impl Network {
         if self.nodes[i].status != Status::Out {
             return Err(No(23));
         }
-        if !between(left_key, right_key, self.nodes[i].key) {
-            return Err(No(24));
-        }
         if self.notice_waits(u) {
             return Err(No(25));
+        }
+        if !between(left_key, right_key, self.nodes[i].key) {
+            return Err(No(24));
         }
         if self.is_full() {
             return Err(No(28));

@@ -38,6 +38,9 @@ pub(crate) enum Purpose {
     TightBudget = 33,
     Fault = 34,
     StartOfLastQuestion = 35,
+    JoinByWalk = 36,
+    AnyLeft = 37,
+    AnyRight = 38,
     Length = 47,
 }
 

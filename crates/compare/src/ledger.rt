@@ -3,7 +3,7 @@ use arrayvec::ArrayVec;
 use model::answer::{Answer, Outcome, Refusal};
 use model::network::Network;
 use model::reading::Line;
-use model::script::Mark;
+use model::script::{Mark, Record};
 use std::fmt;
 
 /// What stands for a record: its mark, if it has one. No `Option`: what has no mark comes last, and
@@ -77,6 +77,18 @@ struct Tally {
     times: usize,
 }
 
+// A join told 25 whose key was not between either; a refusal changes nothing, so that the network
+// still shows it.
+fn has_both_faults(line: Line, network: &Network) -> bool {
+    let is_told_to_wait = matches!(line.reply, Err(Refusal::NoticeWaits));
+    match line.record {
+        Some(Record::Join { node, left, right }) => {
+            is_told_to_wait && !network.lies_between(node, left, right)
+        }
+        _ => false,
+    }
+}
+
 /// Where a script differs first, counted from 1.
 #[derive(Clone, Copy)]
 pub(crate) struct Difference {
@@ -94,6 +106,7 @@ pub(crate) struct Ledger {
     scripts: usize,
     printed: usize,
     passed_over: usize,
+    with_both_faults: usize,
     differing: usize,
     first_difference: Option<Difference>,
 }
@@ -129,6 +142,9 @@ impl Ledger {
         if network.is_full() {
             self.with_full_queue = self.with_full_queue.saturating_add(1);
         }
+        if has_both_faults(line, network) {
+            self.with_both_faults = self.with_both_faults.saturating_add(1);
+        }
     }
 
     /// Enters a script that both have printed.
@@ -159,6 +175,7 @@ impl fmt::Display for Ledger {
             scripts,
             printed,
             passed_over,
+            with_both_faults,
             differing,
             ..
         } = self;
@@ -167,6 +184,7 @@ impl fmt::Display for Ledger {
         writeln!(f, "{records} records")?;
         writeln!(f, "{printed} bytes of printout")?;
         writeln!(f, "{passed_over} places passed over in drains")?;
+        writeln!(f, "{with_both_faults} joins told 25 that met 24 too")?;
         writeln!(f, "{differing} scripts differed")?;
         if let Some(Difference { script, byte }) = self.first_difference {
             writeln!(f, "the first is {script} at byte {byte}")?;

@@ -189,10 +189,18 @@ impl Draw<'_> {
     }
 
     // A join before the node that a walk from some node finds to own the key, and in a few cases
-    // with any node on the right.
+    // with any node on the right. Where a notice waits for the joiner it is mostly between any two
+    // nodes, so that 24 is often met beside 25.
     fn join(&self) -> Record {
         let network = self.network;
         let node = self.any_node(Purpose::Joiner);
+        if network.awaits(node, Kind::SetL) && !self.throw.one_of(Purpose::JoinByWalk, 4) {
+            return Record::Join {
+                node,
+                left: self.any_node(Purpose::AnyLeft),
+                right: self.any_node(Purpose::AnyRight),
+            };
+        }
         let start = self.any_node(Purpose::StartOfWalk);
         let left = match network.owner_from(start, network.node(node).key) {
             Some((_, owner)) => owner,

@@ -5,7 +5,7 @@ use mathlib.Core.Path.{◌≡◌, refl, sym, ap, ◌∙◌}
 use mathlib.Core.Logic.{⊎_elim}
 use mathlib.Core.Bool.{Bool, true, false, not, ◌&&◌, ◌||◌, cond, and-false}
 use Rattle.std.specs.Prelude.{Option, None, Some}
-use mathlib.Core.List.{List, ◌∷◌}
+use mathlib.Core.List.{List}
 use Prim.Native.Nat.{ℕ, ◌+◌, ◌-◌, ◌≤◌, ◌<◌}
 use native.Mathlib.Omega.{arith}
 use lib.ListN.{length}
@@ -14,12 +14,12 @@ use borrow.Author.Tests.{leb-true, ltb-true, le-leb, lt-ltb, le-ltb, not-false}
 use Rattle.predicates.proofs.Laws.{impossible, both}
 use Rattle.predicates.proofs.TestLaws.{decided, is_true}
 use Rattle.refusal.specs.Code.{Reason, plain}
-use Rattle.refusal.specs.Rules.{Coded, done, no, Rule, ◌when◌, first, unless_refused}
-use Rattle.refusal.proofs.Laws.{cleared}
+use Rattle.refusal.specs.Rules.{Coded, done, no, first, unless_refused}
+use Rattle.refusal.proofs.Laws.{cleared, rest_cleared}
 use Rattle.serial.specs.Serial.{in_range}
 use Rattle.node.specs.declared.Node.{Node}
 use Rattle.parts.specs.declared.Message.{Message}
-use Rattle.node.specs.Shape.{declared_of, capacity, peer_fits, well_formed as node_is_sound}
+use Rattle.node.specs.Shape.{declared_of, capacity}
 use Rattle.node.proofs.ActionLaws.{join-tested, leave-tested}
 use Rattle.node.specs.Actions.{Effect, create_of, join_unchecked, join_of, leave_unchecked, leave_of, act_of, would_grant}
 use Rattle.protocol.specs.declared.Call.{Call}
@@ -29,10 +29,10 @@ use Rattle.protocol.specs.declared.Reply.TheVariants.{Declared}
 use Rattle.protocol.specs.State.{queue_limit, declared, node_at, notice_waits, well_formed as lists_are_well_formed}
 use Rattle.protocol.specs.Calls.{stepped, commit, declaring, create_rules, peer_at, join_rules, leave_rules, message_at, without, is_grantable, deliver_rules, receiving, rules_of, effect_of, apply_of as apply_to_lists}
 use Rattle.protocol.specs.Answer.{accepted}
-use Rattle.protocol.proofs.Facts.{WellFormed as ListsWellFormed, well-formed as lists-well-formed}
+use Rattle.protocol.proofs.Facts.{WellFormed as ListsWellFormed, well-formed as lists-well-formed, node-sound, join-sound}
 use Rattle.protocol.proofs.Waiting.{taken as message-taken}
 use Rattle.protocol.proofs.Cases.{tested-below, declared-addressee, accepted_case, received as received-acts}
-use Rattle.protocol.proofs.Refusals.{accepted-said, node-sound, peer-sound}
+use Rattle.protocol.proofs.Refusals.{accepted-said}
 use Rattle.network.specs.declared.Network.{Network}
 use Rattle.network.specs.Arrays.{live, well_formed, held}
 use Rattle.network.proofs.Lengths.{Lengths}
@@ -48,7 +48,7 @@ use Rattle.searches.specs.declared.Found.{Found}
 use Rattle.searches.specs.Searches.{key_is_taken as key_is_taken_in, some_stands, notice_waits as notice_waits_in}
 use Rattle.searches.proofs.Searches.{stands, taken}
 use Rattle.decision.specs.Decided.{Decided, spots_of, turned_away, adding, stepping, delivering, after_step, room_tests}
-use Rattle.rules.specs.Decisions.{unless, declare_tests, create_tests, join_step, leave_tests, receive_step, deliver_tests}
+use Rattle.rules.specs.Decisions.{unless, declare_tests, create_tests, before_joining, join_step, leave_tests, receive_step, deliver_tests}
 use Rattle.ruling.specs.Rulings.{decision_on}
 use Rattle.engine.specs.Outcomes.{counted, refused, in_arrays, apply_of}
 use Rattle.engine.specs.Computed.{outcome}
@@ -102,8 +102,11 @@ module _ (n : Network) (l : Lengths n) (h : well_formed n ≡ true) where
   pub same : held (live n) ≡ n
   same = held-live n l.nodes l.messages h
 
+  below : (u : ℕ) → u < n.count → u < length (live n).nodes
+  below u k = omega (arith, nodes-length n l h)
+
   known : (u : ℕ) → u < n.count → declared (live n) u ≡ true
-  known u k = lt-ltb u (length (live n).nodes) (omega (arith, nodes-length n l h))
+  known u k = lt-ltb u (length (live n).nodes) (below u k)
 
   unknown : (u : ℕ) → n.count ≤ u → declared (live n) u ≡ false
   unknown u k = le-ltb u (length (live n).nodes) (omega (arith, nodes-length n l h))
@@ -200,8 +203,7 @@ module _ (n : Network) (l : Lengths n) (h : well_formed n ≡ true) where
   join-read u p q here left right =
       let neighbour : (v : ℕ) → v < n.count → record { number = v; key = (node_in n v).key } ≡ peer_at (live n) v =
       λ v k. ap (λ (node : Node). record { number = v; key = node.key }) (node_read n l h v k) in
-      let sound : not (node_is_sound u (node_at (live n) u) && (peer_fits (peer_at (live n) p) && peer_fits (peer_at (live n) q))) ≡ false =
-      rw (node-sound (live n) lists u (ap not (known u here)), peer-sound (live n) lists p (ap not (known p left)), peer-sound (live n) lists q (ap not (known q right))) in
+      let sound = join-sound lists u p q (below u here) (below p left) (below q right) in
       (λ i. join_unchecked u (node_read n l h u here i) (neighbour p left i) (neighbour q right i)) ∙ join-tested u (node_at (live n) u) (peer_at (live n) p) (peer_at (live n) q) sound
 
   module _ (u p q : ℕ) where
@@ -211,8 +213,11 @@ module _ (n : Network) (l : Lengths n) (h : well_formed n ≡ true) where
     abbrev all_known : Bool
     all_known = ltb u n.count && (ltb p n.count && ltb q n.count)
 
-    abbrev rest : List Rule
-    rest = (25 when notice_waits_in n u) ∷ room_tests n.waiting joined.posts
+    abbrev after_joining : Option Reason
+    after_joining = after_step joined.said (first (room_tests n.waiting joined.posts))
+
+    abbrev rest : Option Reason
+    rest = unless_refused (first (before_joining (node_in n u) (notice_waits_in n u))) Some after_joining
 
     three : all_known ≡ true → (u < n.count) × (p < n.count) × (q < n.count)
     three t =
@@ -220,13 +225,14 @@ module _ (n : Network) (l : Lengths n) (h : well_formed n ≡ true) where
         let (b, c) = both (ltb p n.count) _ bc in
         (ltb-true _ _ a, ltb-true _ _ b, ltb-true _ _ c)
 
-    join-tests : unless all_known (after_step joined.said (first rest)) ≡ first (join_rules (live n) u p q)
+    join-tests : unless all_known rest ≡ first (join_rules (live n) u p q)
     join-tests = unless-says all_known _ _ says absent
       where
-        says : all_known ≡ true → after_step joined.said (first rest) ≡ first (join_rules (live n) u p q)
+        says : all_known ≡ true → rest ≡ first (join_rules (live n) u p q)
         says t =
             let (here, left, right) = three t in
-            (λ i. after_step (join-read u p q here left right i).said (first ((25 when notice_waits (live n) u) ∷ room_tests (sym (messages-length n l h) i) (join-read u p q here left right i).posts)))
+            let step = join-read u p q here left right in
+            (λ i. unless_refused (first (before_joining (node_read n l h u here i) (notice_waits (live n) u))) Some (after_step (step i).said (first (room_tests (sym (messages-length n l h) i) (step i).posts))))
             ∙ join-says (live n) lists u p q (known u here) (known p left) (known q right)
 
         absent : all_known ≡ false → Some (plain 5) ≡ first (join_rules (live n) u p q)
@@ -235,12 +241,13 @@ module _ (n : Network) (l : Lengths n) (h : well_formed n ≡ true) where
     decides-join : outcome n (decision_on n (Order (Join u p q))) ≡ counted (apply_of n (Order (Join u p q)))
     unfolding decision_on
     decides-join =
-        as-ruled (Order (Join u p q)) (unless all_known (after_step joined.said (first rest))) (stepping u joined) join-tests
+        as-ruled (Order (Join u p q)) (unless all_known rest) (stepping u joined) join-tests
         (λ clear.
-        let (all, after) = unless_known all_known (after_step joined.said (first rest)) clear in
+        let (all, tested) = unless_known all_known rest clear in
         let (here, left, right) = three all in
-        let (_, (room, _)) = cleared rest (after-cleared joined.said (first rest) after) in
-        steps-outcome u joined here (leb-true _ _ (not-false _ room))
+        let after = rest_cleared (before_joining (node_in n u) (notice_waits_in n u)) tested in
+        let room = after-cleared joined.said (first (room_tests n.waiting joined.posts)) after in
+        steps-outcome u joined here (room-cleared n.waiting joined.posts room)
         ∙ ap (λ e. counted (in_arrays (commit (live n) u (live n).messages e))) (join-read u p q here left right))
 
   module _ (u : ℕ) where
@@ -249,7 +256,7 @@ module _ (n : Network) (l : Lengths n) (h : well_formed n ≡ true) where
 
     -- the step of a leave is that of the list's node
     leave-read : u < n.count → leave_unchecked u (node_at (live n) u) ≡ leave_of u (node_at (live n) u)
-    leave-read here = leave-tested u (node_at (live n) u) (ap not (node-sound (live n) lists u (ap not (known u here))))
+    leave-read here = leave-tested u (node_at (live n) u) (ap not (node-sound lists u (below u here)))
 
     leave-tests : leave_tests u n.count n.waiting (node_in n u) ≡ first (leave_rules (live n) u)
     leave-tests = unless-says (ltb u n.count) _ _ says absent

@@ -1,6 +1,6 @@
--- What the network's rules come to after a node's step. A step's own rules come first, and where
--- they let it pass, what it posts is known: so that the rule on room, read off the posts, is
--- refusal 28 as R6.7, R6.8, R6.9 have it. Assumes nothing.
+-- What the network's rules before and after a node's step come to. Where the step's own rules let
+-- it pass, what it posts is known: so that the rule on room, read off the posts, is refusal 28 as
+-- R6.7, R6.8, R6.9 have it. Assumes nothing.
 use mathlib.Core.Path.{◌≡◌, refl, sym, ap, ◌∙◌}
 use mathlib.Core.Logic.{⊎_elim}
 use mathlib.Core.Bool.{Bool, true, false, not, ◌&&◌, cond, and-true, and-false}
@@ -10,12 +10,12 @@ use Prim.Native.Nat.{ℕ, suc, ◌+◌, ◌-◌, ◌≤◌, ◌<◌}
 use native.Mathlib.Omega.{arith}
 use lib.ListN.{length}
 use lib.Dec.{leb, ltb}
-use borrow.Author.Tests.{le-leb, lt-ltb}
+use borrow.Author.Tests.{ltb-true, le-leb, lt-ltb}
 use Rattle.predicates.proofs.Laws.{impossible, by_test}
 use Rattle.predicates.proofs.TestLaws.{decided}
 use Rattle.refusal.specs.Code.{Reason}
 use Rattle.refusal.specs.Rules.{done, Rule, ◌when◌, first, unless_refused, ruled}
-use Rattle.refusal.proofs.Laws.{first_append, cleared}
+use Rattle.refusal.proofs.Laws.{first_append, cleared, after_rules}
 use Rattle.sequence.specs.Sequence.{newer, next_seq}
 use Rattle.parts.specs.declared.Status.{Status}
 use Rattle.parts.specs.declared.Status.TheVariants.{Out, Ins, In, Del}
@@ -30,21 +30,22 @@ use Rattle.node.specs.declared.Outcome.{Outcome}
 use Rattle.node.specs.declared.Outcome.TheVariants.{Waiting, LeftAlone}
 use Rattle.parts.specs.Tests.{is_out, is_in, seq_of}
 use Rattle.parts.specs.Posts.{posted}
-use Rattle.node.specs.Actions.{Effect, refused, quiet, posting, with_status, create_rules, creating, create_of, join_rules, asking, join_of, alone, leave_rules, leave_request, leaving, leave_of, on_set_r_ack, on_set_r_nak, on_kind, act_of, would_grant}
+use Rattle.node.specs.Actions.{Effect, refused, quiet, posting, with_status, not_between, create_rules, creating, create_of, join_rules, asking, join_of, alone, leave_rules, leave_request, leaving, leave_of, on_set_r_ack, on_set_r_nak, on_kind, act_of, would_grant}
 use Rattle.node.proofs.ActionLaws.{granted, join-accepted, leave-alone-accepted, leave-accepted}
 use Rattle.protocol.specs.State.{State, queue_limit, declared, node_at, notice_waits, well_formed}
 use Rattle.protocol.specs.Calls.{is_full, peer_at, join_rules as join_call_rules, leave_rules as leave_call_rules, message_at, is_grantable, deliver_rules, receiving}
-use Rattle.protocol.proofs.Facts.{WellFormed, tested}
+use Rattle.protocol.proofs.Facts.{WellFormed, tested, join-sound}
 use Rattle.protocol.proofs.Waiting.{taken}
 use Rattle.protocol.proofs.Cases.{received}
 use Rattle.decision.specs.Decided.{after_step, room_tests}
+use Rattle.rules.specs.Decisions.{before_joining}
 
 -- ---- how much a step posts
-not_out : (status : Status) → is_in status ≡ true → is_out status ≡ false
-not_out Out e = impossible e
-not_out Ins e = refl
-not_out In e = refl
-not_out Del e = refl
+in_is_not_out : (status : Status) → is_in status ≡ true → is_out status ≡ false
+in_is_not_out Out e = impossible e
+in_is_not_out Ins e = refl
+in_is_not_out In e = refl
+in_is_not_out Del e = refl
 
 pub few-posts : (p : Posts) → length (posted p) ≤ 2
 few-posts Nothing = omega arith
@@ -109,7 +110,7 @@ leaving-says me u = go (alone me u)
 -- and of a message received: two where a request is granted, and else one at most
 module _ (me : ℕ) (u : Node) (v : ℕ) where
   granted-posts : (kind : Kind) → would_grant u v kind ≡ true → length (act_of me u v kind).posts ≡ 2
-  granted-posts (SetR new e n) g = rw (not_out u.status (granted u v new e g).is_in, g)
+  granted-posts (SetR new e n) g = rw (in_is_not_out u.status (granted u v new e g).is_in, g)
   granted-posts (SetRAck n) g = impossible g
   granted-posts SetRNak g = impossible g
   granted-posts (SetL left n) g = impossible g
@@ -128,16 +129,22 @@ module _ (s : State) (w : WellFormed s) where
   sound : not (well_formed s) ≡ false
   sound = ap not (tested s w)
 
-  -- 25, and 28 of a join
+  -- R6.7: 23 and 25 before the step, 28 after it
   pub join-says : (u p q : ℕ) → declared s u ≡ true → declared s p ≡ true → declared s q ≡ true
-      → after_step (join_of u (node_at s u) (peer_at s p) (peer_at s q)).said
-      (first ((25 when notice_waits s u) ∷ room_tests (length s.messages) (join_of u (node_at s u) (peer_at s p) (peer_at s q)).posts))
+      → unless_refused (first (before_joining (node_at s u) (notice_waits s u))) Some
+      (after_step (join_of u (node_at s u) (peer_at s p) (peer_at s q)).said (first (room_tests (length s.messages) (join_of u (node_at s u) (peer_at s p) (peer_at s q)).posts)))
       ≡ first (join_call_rules s u p q)
   unfolding join_of
   join-says u p q known left right =
+      let own = join_rules u (node_at s u) (peer_at s p) (peer_at s q) in
+      let earlier = before_joining (node_at s u) (notice_waits s u) in
+      let shaped = join-sound w u p q (ltb-true _ _ known) (ltb-true _ _ left) (ltb-true _ _ right) in
       rw (sound, known, left, right)
-      (after-own (join_rules u (node_at s u) (peer_at s p) (peer_at s q)) ((25 when notice_waits s u) ∷ (28 when is_full s) ∷ []) (node_at s u) (asking u (node_at s u) (peer_at s p) (peer_at s q)) Waiting _ refl
-      (λ clear. rw (joined_posts u (node_at s u) (peer_at s p) (peer_at s q) clear, full-by-one (length s.messages))))
+      (after_rules earlier (λ (out, _).
+      after-own own ((28 when is_full s) ∷ []) (node_at s u) (asking u (node_at s u) (peer_at s p) (peer_at s q)) Waiting _ refl
+      (λ clear. rw (joined_posts u (node_at s u) (peer_at s p) (peer_at s q) clear, full-by-one (length s.messages)))
+      ∙ rw (shaped, out))
+      ∙ sym (first_append earlier (not_between (node_at s u) (peer_at s p) (peer_at s q) ∷ (28 when is_full s) ∷ [])))
 
   -- R6.8: 28 of a leave that posts
   pub leave-says : (u : ℕ) → declared s u ≡ true

@@ -157,17 +157,23 @@ impl Network {
         })
     }
 
+    /// The key of the node is in (key of left, key of right): in [.., ..), and not the left one's.
+    pub fn lies_between(&self, node: u8, left: u8, right: u8) -> bool {
+        let key = self.node(node).key;
+        let from = self.node(left).key;
+        key != from && holds(from, self.node(right).key, key)
+    }
+
     pub fn joining(&self, node: u8, left: u8, right: u8) -> Result<Step, Refusal> {
         let joiner = self.node(node);
-        let from = self.node(left).key;
         if joiner.status != Status::Out {
             return Err(Refusal::NotOut);
         }
-        if joiner.key == from || !holds(from, self.node(right).key, joiner.key) {
-            return Err(Refusal::NotBetween);
-        }
         if self.awaits(node, Kind::SetL) {
             return Err(Refusal::NoticeWaits);
+        }
+        if !self.lies_between(node, left, right) {
+            return Err(Refusal::NotBetween);
         }
         let after = Node {
             status: Status::Ins,

@@ -6,10 +6,11 @@ use crate::script::{Mark, Record};
 use arrayvec::ArrayVec;
 use std::fmt;
 
-/// What came of a record, and its mark, if it has one.
+/// What came of a record, its mark, if it has one, and the record, if it has all its bytes.
 #[derive(Clone, Copy)]
 pub struct Line {
     pub mark: Option<Mark>,
+    pub record: Option<Record>,
     pub reply: Result<Answer, Refusal>,
 }
 
@@ -91,6 +92,7 @@ impl Player {
                 taken.clear();
                 Some(Line {
                     mark: Some(record.mark()),
+                    record: Some(record),
                     reply: self.execute(record),
                 })
             }
@@ -98,6 +100,7 @@ impl Player {
                 self.taken = None;
                 Some(Line {
                     mark: None,
+                    record: None,
                     reply: Err(refusal),
                 })
             }
@@ -112,6 +115,7 @@ impl Player {
         }
         Some(Line {
             mark: mark_of(taken.as_slice()),
+            record: None,
             reply: Err(Refusal::CutShort),
         })
     }

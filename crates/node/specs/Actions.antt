@@ -74,10 +74,19 @@ with_left l n u = record { status = u.status; key = u.key; left = l; right = u.r
 abbrev pub with_right : Link → Seq → Node → Node
 with_right l n u = record { status = u.status; key = u.key; left = u.left; right = l; lseq = u.lseq; rseq = n }
 
+-- ---- refusals 23 and 24, named so that a network's list can put 25 between them
+-- refusal 23: the node is not out
+abbrev pub not_out : Node → Rule
+not_out u = 23 when not (is_out u.status)
+
+-- refusal 24: its key is not between those of left and right
+abbrev pub not_between : Node → Peer → Peer → Rule
+not_between u p q = 24 when not (between p.key q.key u.key)
+
 -- ---- create
--- R6.4: 6, and 23 of a node that is not out
+-- R6.4: 6, and 23
 abbrev pub create_rules : ℕ → Node → List Rule
-create_rules me u = (6 when not (well_formed me u)) ∷ (23 when not (is_out u.status)) ∷ []
+create_rules me u = (6 when not (well_formed me u)) ∷ not_out u ∷ []
 
 -- R5.1: linked to itself, both numbers the first, in
 abbrev pub created : ℕ → Node → Node
@@ -92,9 +101,9 @@ unfoldable pub create_of : ℕ → Node → Effect
 create_of me u = ruled (create_rules me u) (refused u) (creating me u)
 
 -- ---- join
--- R6.4: 23 of a node that is not out, 24 of a key that is not between
+-- R6.4: 23, 24
 abbrev pub join_own_rules : Node → Peer → Peer → List Rule
-join_own_rules u p q = (23 when not (is_out u.status)) ∷ (24 when not (between p.key q.key u.key)) ∷ []
+join_own_rules u p q = not_out u ∷ not_between u p q ∷ []
 
 -- R6.4: 6 comes before them
 abbrev pub join_rules : ℕ → Node → Peer → Peer → List Rule

@@ -30,14 +30,14 @@ use Rattle.parts.specs.Tests.{is_out, is_in_or_del, target, seq_of, is_request, 
 use Rattle.node.specs.Shape.{capacity}
 use Rattle.node.specs.Actions.{Effect, alone, leave_rules as leave_step_rules, grants, on_set_r, on_set_r_ack, on_set_r_nak, on_set_l, on_kind, act_of, would_grant}
 use Rattle.node.proofs.ActionLaws.{tested_out, tested_in, tested-link, granted, create-accepted, join-accepted, leave-alone-accepted, leave-accepted, receive-accepted, join-granted, leave-granted}
-use Rattle.node.proofs.FitLaws.{NodeFits, message-facts, left-named, right-named, number-named, well-formed-among, deliverable-among}
+use Rattle.node.proofs.FitLaws.{NodeFits, message-facts, left-named, right-named, number-named, deliverable-among}
 use Rattle.protocol.specs.declared.Call.{Call}
 use Rattle.protocol.specs.declared.Order.TheVariants.{Declare, Create, Join, Leave}
 use Rattle.protocol.specs.declared.Call.TheVariants.{Order, Deliver}
-use Rattle.protocol.specs.State.{State, queue_limit, node_at, status_at, key_at, left_at, right_at, is_exchange_of, exchanges, well_formed}
+use Rattle.protocol.specs.State.{State, queue_limit, declared, node_at, status_at, key_at, left_at, right_at, is_exchange_of, exchanges, well_formed}
 use Rattle.protocol.specs.Calls.{refused, commit, is_full, is_grantable, declare_rules, declaring, create_rules, creating, peer_at, join_rules, joining, leave_rules, leaving, message_at, without, deliver_rules, receiving, delivering, rules_of, effect_of, apply_of}
 use Rattle.protocol.proofs.Waiting.{taken}
-use Rattle.protocol.proofs.Facts.{WellFormed, well-formed, tested}
+use Rattle.protocol.proofs.Facts.{WellFormed, well-formed, tested, node-sound, join-sound}
 use Rattle.protocol.proofs.Changes.{Delivers, Grants, Act, drops, lets_in, lets_go, denies, joins, goes, stays_out, stays_in, takes, ignores, Accepted, declares, creates, asks, goes_alone, leaves, delivers, Change, refuses, accepts}
 
 -- ---- what the tests say
@@ -64,7 +64,7 @@ create_case s u clear =
     let w = well-formed s (not-false (well_formed s) ok) in
     let declared : u < length s.nodes = tested-below u _ known in
     let all-out = below_at (length s.nodes) (λ v. is_out (status_at s v)) (not-false _ out) in
-    let sound = well-formed-among w.few_nodes u declared (w.node u declared) in
+    let sound = node-sound w u declared in
     creates u refl record {
       declared = declared;
       all_out = λ v h. tested_out (status_at s v) (all-out v h);
@@ -73,14 +73,26 @@ create_case s u clear =
 
 join_case : (s : State) (u p q : ℕ) → first (join_rules s u p q) ≡ None → Accepted s (Order (Join u p q)) (joining s u p q)
 join_case s u p q clear =
-    let (_, (known, (left, (right, (sound, (out, (lies, (no_notice, (room, _))))))))) = cleared (join_rules s u p q) clear in
+    -- each fact is found by what it says, wherever its rule stands in the list
+    let passed = cleared (join_rules s u p q) clear in
+    let ok : not (well_formed s) ≡ false = search passed in
+    let known : not (declared s u) ≡ false = search passed in
+    let left : not (declared s p) ≡ false = search passed in
+    let right : not (declared s q) ≡ false = search passed in
+    let out : not (is_out (status_at s u)) ≡ false = search passed in
+    let lies : not (between (key_at s p) (key_at s q) (key_at s u)) ≡ false = search passed in
+    let room : is_full s ≡ false = search passed in
+    let node-declared : u < length s.nodes = tested-below u _ known in
+    let left-declared : p < length s.nodes = tested-below p _ left in
+    let right-declared : q < length s.nodes = tested-below q _ right in
+    let sound = join-sound (well-formed s (not-false (well_formed s) ok)) u p q node-declared left-declared right-declared in
     asks u p q refl record {
-      declared = tested-below u _ known;
-      left_declared = tested-below p _ left;
-      right_declared = tested-below q _ right;
+      declared = node-declared;
+      left_declared = left-declared;
+      right_declared = right-declared;
       is_out = tested_out (status_at s u) (not-false _ out);
       between = tested-between (key_at s p) (key_at s q) (key_at s u) lies;
-      no_notice = no_notice;
+      no_notice = search passed;
       room = tested-below (length s.messages) queue_limit room;
     } (rw (join-accepted u (node_at s u) (peer_at s p) (peer_at s q) (sound, (out, (lies, tt)))))
 
@@ -168,7 +180,7 @@ module _ (s : State) (w : WellFormed s) (m : Message) (waits : m ∈ s.messages)
   -- the addressee's own rules do not refuse it
   pub received : receiving s m ≡ act_of m.to (node_at s m.to) m.sender m.kind
   received =
-      let sound = well-formed-among w.few_nodes m.to declared-addressee (w.node m.to declared-addressee) in
+      let sound = node-sound w m.to declared-addressee in
       let deliverable = deliverable-among w.few_nodes m (w.message m waits) in
       receive-accepted m.to (node_at s m.to) m (rw (sound, deliverable), tt)
 

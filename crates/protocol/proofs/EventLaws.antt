@@ -66,9 +66,9 @@ told-inserted : (s : State) {told : ℕ → Bool} → Holds s told → (u : ℕ)
 unfolding inserted
 told-inserted s o u = (λ e. holds (sym (o.as_told u) ∙ e), λ t. o.as_told u ∙ is_true _ t)
 
-not_out : (s : State) (u : ℕ) → Inserted s u → status_at s u ≢ Out
+inserted_is_not_out : (s : State) (u : ℕ) → Inserted s u → status_at s u ≢ Out
 unfolding inserted
-not_out s u t = member_not_out (node_at s) s.messages u (is_true _ t)
+inserted_is_not_out s u t = member_not_out (node_at s) s.messages u (is_true _ t)
 
 module _ (s s' : State) {told : ℕ → Bool} (o : Holds s told) where
   as_before : Holds s' told → (u : ℕ) → Inserted s' u ↔ Inserted s u
@@ -111,7 +111,7 @@ module _ {s s' : State} {told : ℕ → Bool} (o : Holds s told) where
   was-out {i} at out o' = unmoved o' (λ u t. ap key_of (same u t)) (λ u t. ap right_of (same u t))
     where
       same : (u : ℕ) → Inserted s u → node_at s' u ≡ node_at s u
-      same u t = at.others u (λ e. not_out s u t (ap (status_at s) e ∙ out))
+      same u t = at.others u (λ e. inserted_is_not_out s u t (ap (status_at s) e ∙ out))
 
 -- ---- founded and emptied
 ordered-none : {s : State} → ((w : ℕ) → ¬ Inserted s w) → Ordered s []
@@ -132,7 +132,7 @@ module _ {s s' : State} {told : ℕ → Bool} (o : Holds s told) where
   }
     where
       none : (w : ℕ) → ¬ Inserted s w
-      none w t = not_out s w t (out w)
+      none w t = inserted_is_not_out s w t (out w)
 
       alone : (w : ℕ) → Inserted s' w ↔ (w ≡ u)
       alone w = let now = and_one s s' o o' w in (λ t. ⊎_elim (λ b. absurd (none w b)) (λ e. e) (now.0 t), λ e. now.1 (inr e))

@@ -1,8 +1,8 @@
--- Well-formedness as facts that proofs can use, and that these facts say what the test says.
--- Assumes nothing.
+-- Well-formedness as facts that proofs can use, that these facts say what the test says, and that
+-- what such a network hands to a node's step passes the step's own test of shape. Assumes nothing.
 use mathlib.Core.Path.{◌≡◌, ap}
 use mathlib.Core.Logic.{◌≢◌}
-use mathlib.Core.Bool.{true, not, ◌&&◌}
+use mathlib.Core.Bool.{true, false, not, ◌&&◌}
 use Prim.Native.Nat.{ℕ, ◌≤◌, ◌<◌}
 use lib.ListN.{length}
 use lib.Dec.{leb, eqb}
@@ -12,9 +12,10 @@ use Rattle.predicates.proofs.Laws.{both}
 use Rattle.predicates.proofs.TestLaws.{◌∈◌, every_in, all_pass, below_at, below_all}
 use Rattle.parts.specs.declared.Message.{Message}
 use Rattle.parts.specs.Shape.{message_fits}
-use Rattle.node.specs.Shape.{capacity, node_fits}
-use Rattle.node.proofs.FitLaws.{NodeFits, node-facts, node-fits}
+use Rattle.node.specs.Shape.{capacity, node_fits, well_formed as node_is_sound, peer_fits}
+use Rattle.node.proofs.FitLaws.{NodeFits, node-facts, node-fits, well-formed-among, peer-among}
 use Rattle.protocol.specs.State.{State, queue_limit, node_at, status_at, key_at, is_exchange_of, key_is_new, exchanges, node_is_well_formed, well_formed}
+use Rattle.protocol.specs.Calls.{peer_at}
 
 -- ---- the facts that the test says
 pub record WellFormed (s : State) : Type 0 where
@@ -58,3 +59,16 @@ tested s w =
         let new : key_is_new s u ≡ true = below_all u _ (λ v j. ap not (ne_eqb _ _ (w.keys u v k j))) in
         let few = le-leb _ _ (w.exchange u k) in
         simp (fits, new, few)
+
+-- ---- what is handed to a step
+module _ {s : State} (w : WellFormed s) where
+  pub node-sound : (u : ℕ) → u < length s.nodes → node_is_sound u (node_at s u) ≡ true
+  node-sound u k = well-formed-among w.few_nodes u k (w.node u k)
+
+  peer-sound : (p : ℕ) → p < length s.nodes → peer_fits (peer_at s p) ≡ true
+  peer-sound p k = peer-among w.few_nodes (peer_at s p) k (w.node p k).key
+
+  -- so that a join's step is not refused by its own 6
+  pub join-sound : (u p q : ℕ) → u < length s.nodes → p < length s.nodes → q < length s.nodes
+      → not (node_is_sound u (node_at s u) && (peer_fits (peer_at s p) && peer_fits (peer_at s q))) ≡ false
+  join-sound u p q node left right = rw (node-sound u node, peer-sound p left, peer-sound q right)

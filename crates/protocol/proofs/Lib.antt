@@ -27,3 +27,4 @@ pub mod Members
 pub mod Example
 pub mod EventExample
 pub mod Posted
+pub mod JoinOrder

@@ -3,11 +3,10 @@
 -- refused is accepted. Assumes nothing.
 use mathlib.Core.Path.{◌≡◌, refl, ap}
 use mathlib.Core.Logic.{⊎_elim, ◌↔◌}
-use mathlib.Core.Bool.{true, false, not, ◌&&◌}
+use mathlib.Core.Bool.{false, not}
 use mathlib.Core.List.{List}
 use Rattle.std.specs.Prelude.{Option, None, Some}
 use Prim.Native.Nat.{ℕ}
-use lib.ListN.{length}
 use lib.Dec.{T}
 use Rattle.predicates.proofs.Laws.{impossible}
 use Rattle.predicates.proofs.TestLaws.{decided}
@@ -15,16 +14,14 @@ use Rattle.refusal.specs.Code.{Reason, plain}
 use Rattle.refusal.specs.Rules.{no, first, unless_refused}
 use Rattle.refusal.proofs.Laws.{Never, other, fails, never, others}
 use Rattle.parts.specs.declared.Message.{Message}
-use Rattle.node.specs.Shape.{well_formed as node_is_sound, peer_fits}
-use Rattle.node.proofs.FitLaws.{well-formed-among, peer-among}
 use Rattle.protocol.specs.declared.Call.{Call}
 use Rattle.protocol.specs.declared.Order.TheVariants.{Declare, Create, Join, Leave}
 use Rattle.protocol.specs.declared.Call.TheVariants.{Order, Deliver}
-use Rattle.protocol.specs.State.{State, declared, node_at, well_formed}
-use Rattle.protocol.specs.Calls.{Result, refused, peer_at, rules_of, effect_of, apply_of}
+use Rattle.protocol.specs.State.{State, well_formed}
+use Rattle.protocol.specs.Calls.{Result, refused, rules_of, effect_of, apply_of}
 use Rattle.protocol.specs.Questions.{Walk, found, lost, walked, owner_from, owner_rules, owner_of, hop_limit}
 use Rattle.protocol.specs.Answer.{accepted}
-use Rattle.protocol.proofs.Facts.{WellFormed, well-formed, tested}
+use Rattle.protocol.proofs.Facts.{WellFormed, well-formed, tested, node-sound}
 use Rattle.protocol.proofs.Cases.{tested-below, accepted_case}
 use Rattle.protocol.proofs.Changes.{Act, drops, lets_in, lets_go, denies, joins, goes, stays_out, stays_in, takes, ignores}
 use Rattle.protocol.proofs.Changes.{Accepted, declares, creates, asks, goes_alone, leaves, delivers}
@@ -55,22 +52,11 @@ module _ (s : State) (w : WellFormed s) where
   sound : not (well_formed s) ≡ false
   sound = ap not (tested s w)
 
-  pub node-sound : (u : ℕ) → not (declared s u) ≡ false → node_is_sound u (node_at s u) ≡ true
-  node-sound u known = let k = tested-below u (length s.nodes) known in well-formed-among w.few_nodes u k (w.node u k)
-
-  pub peer-sound : (p : ℕ) → not (declared s p) ≡ false → peer_fits (peer_at s p) ≡ true
-  peer-sound p known = let k = tested-below p (length s.nodes) known in peer-among w.few_nodes (peer_at s p) k (w.node p k).key
-
   never-six : (call : Call) → Never 6 (rules_of s call)
   never-six (Order (Declare key)) = fails sound (others refl)
   never-six (Order (Create u)) = fails sound (others refl)
-  never-six (Order (Join u p q)) =
-      fails sound (other refl (λ known. other refl (λ left. other refl (λ right. fails (step known left right) (others refl)))))
-    where
-      step : not (declared s u) ≡ false → not (declared s p) ≡ false → not (declared s q) ≡ false
-          → not (node_is_sound u (node_at s u) && (peer_fits (peer_at s p) && peer_fits (peer_at s q))) ≡ false
-      step known left right = rw (node-sound u known, peer-sound p left, peer-sound q right)
-  never-six (Order (Leave u)) = fails sound (other refl (λ known. fails (ap not (node-sound u known)) (others refl)))
+  never-six (Order (Join u p q)) = fails sound (others refl)
+  never-six (Order (Leave u)) = fails sound (other refl (λ known. fails (ap not (node-sound w u (tested-below u _ known))) (others refl)))
   never-six (Deliver place) = fails sound (others refl)
 
 -- ---- a number that no rule of a call gives is not said

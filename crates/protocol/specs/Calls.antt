@@ -12,7 +12,7 @@ use Rattle.parts.specs.Tests.{is_out}
 use Rattle.node.specs.declared.Peer.{Peer}
 use Rattle.node.specs.declared.Outcome.{Outcome}
 use Rattle.node.specs.Shape.{declared_of, capacity}
-use Rattle.node.specs.Actions.{Effect, set_r_nak, create_of, join_rules as join_step_rules, join_of, alone, leave_rules as leave_step_rules, leave_of, would_grant, receive_of}
+use Rattle.node.specs.Actions.{Effect, set_r_nak, not_out, not_between, create_of, join_of, alone, leave_rules as leave_step_rules, leave_of, would_grant, receive_of}
 use Rattle.protocol.specs.declared.Call.{Call}
 use Rattle.protocol.specs.declared.Order.TheVariants.{Declare, Create, Join, Leave}
 use Rattle.protocol.specs.declared.Call.TheVariants.{Order, Deliver}
@@ -82,7 +82,7 @@ create_rules s u =
     (6 when not (well_formed s))
     ∷ (5 when not (declared s u))
     ∷ (22 when not (all_out s))
-    ∷ (25 when notice_waits s u)
+    ∷ (25 when notice_waits s u)  -- a join has it too
     ∷ []
 
 -- R6.6: the node's own creation
@@ -94,16 +94,17 @@ creating s u = commit s u s.messages (create_of u (node_at s u))
 abbrev pub peer_at : State → ℕ → Peer
 peer_at s p = record { number = p; key = key_at s p }
 
--- R6.7: 5 of each number, the step's own rules (6, 23, 24), 25 where a notice waits, 28 where 64
--- messages do
+-- R6.7: 5 of each number; the node's own 23 and 24, and between them 25 where a notice waits; 28
+-- where 64 messages wait
 abbrev pub join_rules : State → ℕ → ℕ → ℕ → List Rule
 join_rules s u p q =
     (6 when not (well_formed s))
     ∷ (5 when not (declared s u))
     ∷ (5 when not (declared s p))
     ∷ (5 when not (declared s q))
-    ∷ join_step_rules u (node_at s u) (peer_at s p) (peer_at s q)
-    ++ (25 when notice_waits s u)
+    ∷ not_out (node_at s u)  -- 23
+    ∷ (25 when notice_waits s u)  -- before 24
+    ∷ not_between (node_at s u) (peer_at s p) (peer_at s q)  -- 24
     ∷ (28 when is_full s)
     ∷ []
 

@@ -9,3 +9,4 @@ pub mod Example
 pub mod Questions
 pub mod Drain
 pub mod FurtherClaims
+pub mod JoinOrder

@@ -1,16 +1,16 @@
 -- Laws of refusals: each has a number of its own, so a number names its refusal; rules after other
 -- rules; what it shows that no rule refuses, and that a number is not given. Assumes nothing.
 use mathlib.Core.Path.{◌≡◌, refl, sym, ap, ◌∙◌}
-use mathlib.Core.Bool.{Bool, true, false, ◌||◌, cond, true≢false}
+use mathlib.Core.Bool.{Bool, true, false, ◌&&◌, ◌||◌, cond, true≢false}
 use mathlib.Core.List.{List, [], ◌∷◌, ◌++◌}
-use Rattle.std.specs.Prelude.{None, Some}
+use Rattle.std.specs.Prelude.{Option, None, Some}
 use Prim.Native.Nat.{ℕ, ◌-◌}
 use lib.ListN.{get_or}
 use lib.Dec.{ltb, eqb}
 use borrow.Author.Tests.{eqb-false}
 use Rattle.refusal.specs.declared.Refusal.{Refusal}
 use Rattle.refusal.specs.declared.Refusal.TheVariants.{UnknownMark, CutShort, BadDigit, SerialTooLarge, Undeclared, Malformed, ScriptTooLong, NetworkFull, KeyTaken, NotAllOut, NotOut, NotBetween, NoticeWaiting, NotIn, SequenceSpent, QueueFull, NoMessage, StartNotInserted, OwnerNotFound}
-use Rattle.refusal.specs.Code.{code, plain, reason}
+use Rattle.refusal.specs.Code.{code, Reason, plain, reason}
 use Rattle.refusal.specs.Rules.{Rule, rule, first, unless_refused}
 
 -- the numbers from 1, and those from 20
@@ -66,6 +66,24 @@ pub cleared : (rules : List Rule) → first rules ≡ None → Cleared rules
 cleared [] e = tt
 cleared (rule r true ∷ rules) e = absurd (true≢false cc)
 cleared (rule r false ∷ rules) e = (refl, cleared rules e)
+
+-- two rules that change places: it shows where both hold
+pub exchanged : (m n : Reason) (a b : Bool) (rest : List Rule) → first (rule m a ∷ rule n b ∷ rest) ≡ cond (a && b) (Some m) (first (rule n b ∷ rule m a ∷ rest))
+exchanged m n true true rest = refl
+exchanged m n true false rest = refl
+exchanged m n false true rest = refl
+exchanged m n false false rest = refl
+
+-- what is told after rules matters only where none of them refuses
+pub after_rules : (rules : List Rule) {rest others : Option Reason} → (Cleared rules → rest ≡ others) → unless_refused (first rules) Some rest ≡ unless_refused (first rules) Some others
+after_rules [] same = same tt
+after_rules (rule r true ∷ rules) same = refl
+after_rules (rule r false ∷ rules) same = after_rules rules (λ clear. same (refl, clear))
+
+pub rest_cleared : (rules : List Rule) {rest : Option Reason} → unless_refused (first rules) Some rest ≡ None → rest ≡ None
+rest_cleared [] e = e
+rest_cleared (rule r true ∷ rules) e = absurd (true≢false cc)
+rest_cleared (rule r false ∷ rules) e = rest_cleared rules e
 
 -- ---- a number that is not given: each rule has another, or its condition does not hold where no
 -- rule before it refuses

@@ -7,7 +7,7 @@ use Rattle.refusal.specs.Rules.{Rule, ◌when◌, first, unless_refused, ruled}
 use Rattle.serial.specs.Serial.{in_range}
 use Rattle.node.specs.declared.Node.{Node}
 use Rattle.node.specs.Shape.{capacity}
-use Rattle.node.specs.Actions.{Effect, create_of, join_unchecked, leave_unchecked, act_of}
+use Rattle.node.specs.Actions.{Effect, not_out, create_of, join_unchecked, leave_unchecked, act_of}
 use Rattle.protocol.specs.declared.Order.{Order}
 use Rattle.protocol.specs.declared.Order.TheVariants.{Declare, Create, Join, Leave}
 use Rattle.access.specs.declared.Sight.{Sight}
@@ -36,10 +36,15 @@ create_decision u count node found = unless_refused (unless (ltb u count) (first
 abbrev pub join_step : ℕ → ℕ → ℕ → Sight → Effect
 join_step u p q s = join_unchecked u s.node (record { number = p; key = s.left.key }) (record { number = q; key = s.right.key })
 
+-- 23 and 25 are asked before that step, which sees no queue; of its own two refusals only 24 is left
+abbrev pub before_joining : Node → Bool → List Rule
+before_joining node notice = not_out node ∷ (25 when notice) ∷ []
+
 abbrev pub join_tests : ℕ → ℕ → ℕ → Sight → Bool → Option Reason
 join_tests u p q s notice =
     unless (ltb u s.count && (ltb p s.count && ltb q s.count))
-    (after_step (join_step u p q s).said (first ((25 when notice) ∷ room_tests s.waiting (join_step u p q s).posts)))
+    (unless_refused (first (before_joining s.node notice)) Some
+    (after_step (join_step u p q s).said (first (room_tests s.waiting (join_step u p q s).posts))))
 
 abbrev pub join_decision : ℕ → ℕ → ℕ → Sight → Bool → Decided
 join_decision u p q s notice = unless_refused (join_tests u p q s notice) turned_away (stepping u (join_step u p q s))

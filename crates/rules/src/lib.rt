@@ -13,6 +13,7 @@ use access::{Arrival, Sight};
 use decision::Decision;
 use network::CAPACITY;
 use node::Node;
+use parts::Status;
 use protocol::Order;
 use refusal::{Refusal, refuse_if};
 use searches::Found;
@@ -39,7 +40,7 @@ fn decide_create(number: u8, count: u8, node: Node, found: Found) -> Result<Deci
     Ok(decision::stepping(number, node.create(number)))
 }
 
-// R6.7: the refusals of the node's own step come between those of the network.
+// R6.7: of the step's own two refusals only 24 is left to it.
 #[inline(always)]
 fn decide_join(
     number: u8,
@@ -53,11 +54,13 @@ fn decide_join(
     let count = sight.count;
     let known = (number < count) & ((left < count) & (right < count));
     refuse_if(!known, Refusal::Undeclared)?;
+    let node = sight.node;
+    refuse_if(node.status != Status::Out, Refusal::NotOut)?;
+    refuse_if(notice, Refusal::NoticeWaiting)?;
     let before = decision::peer(left, sight.left);
     let beyond = decision::peer(right, sight.right);
-    let step = sight.node.join_unchecked(number, before, beyond);
+    let step = node.join_unchecked(number, before, beyond);
     step.verdict?;
-    refuse_if(notice, Refusal::NoticeWaiting)?;
     decision::check_room(sight.waiting, step.posts)?;
     Ok(decision::stepping(number, step))
 }

@@ -1,6 +1,6 @@
 //! The sheets of the folder `examples`, one record to a line. There each record has a comment that
 //! says what it does, and beside each sheet stands its printout, which is the same.
-pub(crate) const ALL: [&[u8]; 4] = [
+pub(crate) const ALL: [&[u8]; 5] = [
     // R5.5, R5.9, R5.11: node 0 asks to leave before it has heard of its left neighbour, and so
     // asks and denies itself.
     b"paper\n\
@@ -68,6 +68,33 @@ pub(crate) const ALL: [&[u8]; 4] = [
       DL\x00\
       LV\x00\
       OC\x00\x00\x00\x25\x00",
+    // R5.3, R5.13, R6.7, R6.13, refusals 24 and 25: two old notices to node 0 are under way when it
+    // wants to come back, between the wrong neighbours.
+    b"back-too-early\n\
+      BC\x00\x00\x10\x00\
+      BC\x00\x00\x20\x00\
+      BC\x00\x00\x30\x00\
+      CR\x00\
+      JN\x01\x00\x00\
+      DL\x00\
+      DL\x01\
+      LV\x01\
+      DL\x01\
+      DL\x02\
+      LV\x00\
+      CR\x01\
+      JN\x02\x01\x01\
+      DL\x02\
+      DL\x03\
+      DL\x02\
+      JN\x00\x01\x02\
+      JN\x00\x02\x01\
+      DL\x00\
+      DL\x00\
+      JN\x00\x01\x02\
+      JN\x00\x02\x01\
+      RD\xff\xff\
+      OC\x01\x00\x00\x15\x00",
     // R5.5, R5.9, R5.11, R5.12, R6.9, R7.1, refusals 23 and 29: one of four requests is granted,
     // and messages are delivered out of order.
     b"four-at-once\n\

@@ -3,7 +3,7 @@
 use crate::{Run, crowd};
 use std::io;
 
-pub(crate) const ORDERS: [&[u8]; 7] = [
+pub(crate) const ORDERS: [&[u8]; 9] = [
     // R2.4, R6.5, refusal 21: the same key in another form.
     b"no 21: a key that is taken\n\
       BC\x00\x00\x10\x00\
@@ -51,6 +51,44 @@ pub(crate) const ORDERS: [&[u8]; 7] = [
       JN\x00\x01\x01\
       DL\x00DL\x00\
       JN\x00\x01\x01",
+    // R6.7, R6.13, refusals 24 and 25: the same, and node 0 asks to join where its key is not
+    // between, twice, and then where it is: 25 each time, since notices to it wait. Node 2, to
+    // which none waits, is told 24; and so is node 0 once the notices are delivered, until it asks
+    // in the right place.
+    b"no 25 where 24 holds too: a left notice waits for node 0, and its key is not between\n\
+      BC\x00\x00\x10\x00\
+      BC\x00\x00\x20\x00\
+      BC\x00\x00\x30\x00\
+      CR\x00\
+      JN\x01\x00\x00DL\x00DL\x01\
+      LV\x01DL\x01DL\x02\
+      LV\x00\
+      CR\x01\
+      JN\x00\x01\x02\
+      JN\x00\x01\x00\
+      JN\x00\x01\x01\
+      JN\x02\x00\x01\
+      DL\x00DL\x00\
+      JN\x00\x01\x02\
+      JN\x00\x01\x01",
+    // R6.7, R6.13, refusals 5 and 23: while node 0 is in it is told 23, though a notice to it waits
+    // and its key is not between. Once it is out it is told 5 where the node on its right is not
+    // declared, or the one on its left, and 25 where both neighbours are declared; a node that is
+    // not declared itself, and so has no key and no notice, is told 5.
+    b"no 23 and no 5 where 25 and 24 hold too\n\
+      BC\x00\x00\x10\x00\
+      BC\x00\x00\x20\x00\
+      BC\x00\x00\x30\x00\
+      CR\x00\
+      JN\x01\x00\x00DL\x00\
+      JN\x00\x01\x02\
+      DL\x01\
+      LV\x01DL\x01DL\x02\
+      LV\x00\
+      JN\x00\x01\x03\
+      JN\x00\x03\x00\
+      JN\x00\x01\x02\
+      JN\x03\x01\x02",
     // R6.8, refusal 26: it is out, joining or leaving.
     b"no 26: a leave of a node that is not in\n\
       BC\x00\x00\x10\x00\
@@ -100,7 +138,7 @@ const FULL_QUEUES: [&[u8]; 2] = [
       JN\x18\x00\x01",
     // R6.1, R6.3, R6.6, R6.7, R6.8: 64 messages wait, among them a notice for node 20, which is
     // out. Each record meets several refusals at once, as the join of node 20 between 1 and 0 meets
-    // 24, 25 and 28, and the first is told.
+    // 25, 24 and 28, and the join of node 0x19 between the same two 24 and 28; the first is told.
     b"no 5 and 22 to 26: each before those that come later, with 64 waiting\n\
       DL\x19\
       JN\x16\x00\x01\
@@ -113,6 +151,7 @@ const FULL_QUEUES: [&[u8]; 2] = [
       JN\x00\x00\x00\
       JN\x14\x01\x00\
       JN\x14\x00\x01\
+      JN\x19\x01\x00\
       JN\x19\x00\x01\
       LV\x16\
       DL\x40",
