@@ -178,9 +178,6 @@ impl Network {
                     return Err(No(28));
                 }
                 self.messages.remove(place);
-                if node.status == Status::Out {
-                    return Ok("dropped");
-                }
                 if !grants {
                     self.post(p, v, Kind::SetRNak);
                     return Ok("denied");

@@ -62,12 +62,15 @@ single =
     ∷ (receive_of 0 (linked Del) (set_r_ack 1 0 9) is quiet (linked Out) Gone)
     ∷ (receive_of 0 (linked Ins) (set_r_nak 1 0) is quiet (linked Out) JoinDenied)
     ∷ (receive_of 0 (linked Del) (set_r_nak 1 0) is quiet (linked In) LeaveDenied)
-    -- R5.14: and at a node that is in; R5.13: every kind at a node that is out
+    -- R5.14: and at a node that is in; R5.13: every kind at a node that is out, of SetR a leave's
+    -- too, all of which it would grant if it were in
     ∷ (receive_of 0 (linked In) (set_r_ack 1 0 9) is quiet (linked In) Dropped)
     ∷ (receive_of 0 (linked In) (set_r_nak 1 0) is quiet (linked In) Dropped)
     ∷ (receive_of 0 (linked Out) (set_r_ack 1 0 9) is quiet (linked Out) Dropped)
     ∷ (receive_of 0 (linked Out) (set_r_nak 1 0) is quiet (linked Out) Dropped)
     ∷ (receive_of 0 (linked Out) (set_l 1 0 3 9) is quiet (linked Out) Dropped)
+    ∷ (receive_of 0 (linked Out) (set_r 3 0 3 2 9) is posting (linked Out) (set_r_nak 0 3) Denied)
+    ∷ (receive_of 0 (linked Out) (set_r 2 0 4 2 9) is posting (linked Out) (set_r_nak 0 2) Denied)
     -- R6.12: the own number, the key, the links, the right number; a message for another, or that
     -- names node 32; a neighbour
     ∷ (create_of 32 (linked Out) is refused (linked Out) (plain 6))

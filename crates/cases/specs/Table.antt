@@ -8,7 +8,7 @@ use Rattle.interval.specs.Interval.{between}
 use Rattle.sequence.specs.Sequence.{Number, next_seq}
 use Rattle.parts.specs.declared.Status.TheVariants.{Out, In}
 use Rattle.node.specs.declared.Node.{Node}
-use Rattle.node.specs.declared.Outcome.TheVariants.{LeftAlone, LeftSet, LeftOld, Dropped, Denied}
+use Rattle.node.specs.declared.Outcome.TheVariants.{LeftAlone, LeftSet, LeftOld, Denied}
 use Rattle.node.specs.Shape.{declared_of}
 use Rattle.node.specs.Actions.{set_r, set_r_ack, set_r_nak, set_l, quiet, posting, granting, leave_of, receive_of}
 
@@ -63,7 +63,7 @@ table =
     ∷ (receive_of 0 (node0 1 2 0 65_535) (set_r 2 0 4 2 7) is granting (node0 1 4 0 7) (set_l 0 4 0 7) (set_r_ack 0 2 65_535))
     -- R5.3: a lone node leaves with no message
     ∷ (leave_of 0 (node0 0 0 5 65_535) is quiet (out0 0 0 5 65_535) LeftAlone)
-    -- R5.13: a node that is out drops a SetR
-    ∷ (receive_of 0 (out0 1 2 0 0) (set_r 3 0 3 2 7) is quiet (out0 1 2 0 0) Dropped)
-    ∷ (receive_of 0 (declared_of 1_000) (set_r 3 0 3 2 7) is quiet (declared_of 1_000) Dropped)
+    -- R5.13: a node that is out denies a SetR (02 (ii), which changes this case of 01)
+    ∷ (receive_of 0 (out0 1 2 0 0) (set_r 3 0 3 2 7) is posting (out0 1 2 0 0) (set_r_nak 0 3) Denied)
+    ∷ (receive_of 0 (declared_of 1_000) (set_r 3 0 3 2 7) is posting (declared_of 1_000) (set_r_nak 0 3) Denied)
     ∷ []

@@ -3,6 +3,7 @@ use arrayvec::ArrayVec;
 use model::answer::{Answer, Outcome, Refusal};
 use model::network::Network;
 use model::reading::Line;
+use model::rules::Status;
 use model::script::{Mark, Record};
 use std::fmt;
 
@@ -89,6 +90,15 @@ fn has_both_faults(line: Line, network: &Network) -> bool {
     }
 }
 
+// A delivery by which a node that is out denied a request: its answer is the last message.
+fn is_denied_by_out(line: Line, network: &Network) -> bool {
+    let is_denied = matches!(line.reply, Ok(Answer::Done(Outcome::Denied)));
+    match network.messages().last() {
+        Some(answer) => is_denied && network.node(answer.sender).status == Status::Out,
+        None => false,
+    }
+}
+
 /// Where a script differs first, counted from 1.
 #[derive(Clone, Copy)]
 pub(crate) struct Difference {
@@ -107,6 +117,9 @@ pub(crate) struct Ledger {
     printed: usize,
     passed_over: usize,
     with_both_faults: usize,
+    denied_by_out: usize,
+    unbalanced: usize,
+    with_lost_request: usize,
     differing: usize,
     first_difference: Option<Difference>,
 }
@@ -145,6 +158,15 @@ impl Ledger {
         if has_both_faults(line, network) {
             self.with_both_faults = self.with_both_faults.saturating_add(1);
         }
+        if is_denied_by_out(line, network) {
+            self.denied_by_out = self.denied_by_out.saturating_add(1);
+        }
+        if !network.accounts_balance() {
+            self.unbalanced = self.unbalanced.saturating_add(1);
+        }
+        if !network.loses_no_request() {
+            self.with_lost_request = self.with_lost_request.saturating_add(1);
+        }
     }
 
     /// Enters a script that both have printed.
@@ -176,6 +198,9 @@ impl fmt::Display for Ledger {
             printed,
             passed_over,
             with_both_faults,
+            denied_by_out,
+            unbalanced,
+            with_lost_request,
             differing,
             ..
         } = self;
@@ -185,6 +210,9 @@ impl fmt::Display for Ledger {
         writeln!(f, "{printed} bytes of printout")?;
         writeln!(f, "{passed_over} places passed over in drains")?;
         writeln!(f, "{with_both_faults} joins told 25 that met 24 too")?;
+        writeln!(f, "{denied_by_out} requests denied by a node that is out")?;
+        writeln!(f, "{unbalanced} records that left the accounts unbalanced")?;
+        writeln!(f, "{with_lost_request} records that lost a request")?;
         writeln!(f, "{differing} scripts differed")?;
         if let Some(Difference { script, byte }) = self.first_difference {
             writeln!(f, "the first is {script} at byte {byte}")?;

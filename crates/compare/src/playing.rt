@@ -29,8 +29,8 @@ fn most_bytes(ordinal: u32, mood: Throw) -> usize {
     }
 }
 
-// Where a script ends that has no room for another record, or no use for one: in half of the
-// scripts within that record.
+// Where a script ends that has no room for another record: in half of the scripts within that
+// record.
 fn cut(length: usize, most: usize, mood: Throw) -> usize {
     let is_close = most.saturating_sub(length) < 7;
     if is_close && mood.is_multiple_of(2) {
@@ -75,21 +75,18 @@ impl Match {
         let throws = iter::successors(Some(mood), |throw| Some(throw.following()));
         for throw in throws.skip(1).take(MOST_RECORDS) {
             let length = self.script.len();
-            let network = self.player.network();
-            let is_stuck = network.is_stuck();
             let piece = Draw {
-                network,
+                network: self.player.network(),
                 mood,
                 throw,
             }
             .piece();
             let has_room = piece.append_to(&mut self.script).is_ok() && self.script.len() <= most;
-            let is_last = is_stuck || !has_room;
-            if is_last {
+            if !has_room {
                 self.script.truncate(cut(length, most, mood));
             }
             self.play_from(length);
-            if is_last {
+            if !has_room {
                 return;
             }
         }

@@ -284,15 +284,13 @@ impl Draw<'_> {
     }
 
     // What a record of declared nodes will be answered, as far as it matters here, or nothing where
-    // it posts a request that would not be granted now. A node that goes out with a request on the
-    // way to it leaves the sender waiting for ever.
+    // it posts a request that would not be granted now.
     fn foreseen(&self, record: Record) -> Option<Came> {
         let network = self.network;
         match record {
             Record::Declare(_) => Some(Came::Declared),
             Record::Create { node } => self.prospect(network.creation(node)),
             Record::Join { node, left, right } => self.prospect(network.joining(node, left, right)),
-            Record::Leave { node } if network.awaits(node, Kind::SetR) => None,
             Record::Leave { node } => self.prospect(network.leaving(node)),
             Record::Deliver { place } => self.prospect(network.delivery(usize::from(place))),
             Record::Owner { start, .. } if network.is_inserted(start) => Some(Came::Owner),

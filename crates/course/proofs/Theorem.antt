@@ -23,12 +23,12 @@ use Rattle.protocol.specs.declared.Order.TheVariants.{Declare}
 use Rattle.protocol.specs.declared.Call.{Call}
 use Rattle.protocol.specs.declared.Call.TheVariants.{Order, Deliver}
 use Rattle.protocol.specs.declared.Reply.{Reply}
-use Rattle.protocol.specs.State.{State, well_formed, empty}
+use Rattle.protocol.specs.State.{State, well_formed}
 use Rattle.protocol.specs.Calls.{Result, refused, apply_of}
-use Rattle.protocol.specs.History.{History, start, run, history, posted}
+use Rattle.protocol.specs.History.{History, start, run, history}
+use Rattle.protocol.specs.Claim.{requests}
 use Rattle.protocol.specs.Drain.{places, drain_of}
 use Rattle.protocol.proofs.Drains.{run_append, drain_is_calls}
-use Rattle.protocol.proofs.Posted.{posted_append}
 use Rattle.protocol.proofs.Owners.{always_found}
 use Rattle.protocol.proofs.Theorem.{ring}
 use Rattle.script.specs.declared.Record.{Record}
@@ -45,23 +45,26 @@ use Rattle.course.specs.Claim.{calls_of, calls_read, script_calls, answer_to, an
 state_append : (calls more : List Call) → (history (calls ++ more)).state ≡ (run (history calls) more).state
 state_append calls more = ap (λ (h : History). h.state) (run_append start calls more)
 
-posts_append : (calls more : List Call) → posted empty (calls ++ more) ≡ posted empty calls + posted (history calls).state more
-posts_append calls more = posted_append start calls more
+posts_append : (calls more : List Call) → (history (calls ++ more)).posts ≡ (run (history calls) more).posts
+posts_append calls more = ap (λ (h : History). h.posts) (run_append start calls more)
 
 -- what a record leads to is what its calls lead to
 pub record Follows (calls more : List Call) (p : Result) : Type 0 where
   pub state : p.state ≡ (history (calls ++ more)).state
-  pub posts : length p.posts ≡ posted (history calls).state more
+  pub posts : (history calls).posts + length p.posts ≡ (history (calls ++ more)).posts
 
 module _ (calls : List Call) where
   abbrev here : State
   here = (history calls).state
 
   nothing-more : (p : Result) → p.state ≡ here → length p.posts ≡ 0 → Follows calls [] p
-  nothing-more p state posts = record { state = state ∙ ap (λ (cs : List Call). (history cs).state) (sym (append-nil calls)); posts = posts }
+  nothing-more p state posts = record {
+    state = state ∙ ap (λ (cs : List Call). (history cs).state) (sym (append-nil calls));
+    posts = rw append-nil (omega (arith, posts));
+  }
 
   one-call : (call : Call) → Follows calls (call ∷ []) (apply_of here call)
-  one-call call = record { state = sym (state_append calls (call ∷ [])); posts = omega arith }
+  one-call call = record { state = sym (state_append calls (call ∷ [])); posts = sym (posts_append calls (call ∷ [])) }
 
   well-formed : T (well_formed here)
   well-formed = (ring calls).well_formed
@@ -95,14 +98,14 @@ module _ (calls : List Call) where
 
 -- ---- record by record
 abbrev Sofar : List Call → Progress → Type 0
-Sofar calls p = (p.state ≡ (history calls).state) × (p.posted ≡ posted empty calls)
+Sofar calls p = (p.state ≡ (history calls).state) × (p.posted ≡ (history calls).posts)
 
 one_more : (script : List ℕ) (calls : List Call) (p : Progress) → Sofar calls p → (r : Read) → Sofar (calls ++ calls_read p.state r) (advanced script p r)
 one_more script calls p (state, posts) end = rw (append-nil calls) (state, posts)
 one_more script calls p (state, posts) (stop r) = rw (append-nil calls) (state, posts)
 one_more script calls p (state, posts) (next asked c) =
     let f = follows calls asked in
-    rw state (f.state, omega (arith, posts, f.posts, posts_append calls (calls_of (history calls).state asked)))
+    rw state (f.state, omega (arith, posts, f.posts))
 
 sofar : (script : List ℕ) (k : ℕ) → Sofar (script_calls script k) (after script k)
 sofar script zero = (refl, refl)
@@ -161,6 +164,8 @@ script_is_calls script k =
     record {
       network = network;
       posts = posts;
+      accounts = omega (arith, posts, (ring (script_calls script k)).accounts, ap (λ (s : State). requests s.messages) network);
+      settled = rw network (ring (script_calls script k)).settled;
       sound = ring (script_calls script k);
       printed = (told script k).1;
       never_6 = none-says 6 refl refl script

@@ -1,23 +1,27 @@
 -- Calls on the arrays follow the calls on the lists step by step, from the empty network on; a
 -- network that is not well formed comes back with 6, and a refused call hands back the very
 -- network. A drain leads where its deliveries lead as calls, so what holds after every list of
--- calls holds after a drain. Assumes nothing.
-use mathlib.Core.Path.{◌≡◌, refl, sym, ap, ◌∙◌}
+-- calls holds after a drain. What they post, grant and deny adds up as it does for the lists.
+-- Assumes nothing.
+use mathlib.Core.Path.{◌≡◌, refl, sym, ap, subst, ◌∙◌}
 use mathlib.Core.Logic.{⊎_elim}
 use mathlib.Core.Bool.{true, false}
 use mathlib.Core.List.{List, [], ◌∷◌, ◌++◌, map}
-use Prim.Native.Nat.{ℕ}
+use Prim.Native.Nat.{ℕ, ◌+◌}
+use native.Mathlib.Omega.{arith}
 use lib.ListN.{length}
 use Rattle.predicates.proofs.TestLaws.{holds, is_true, decided}
 use Rattle.refusal.specs.Code.{Reason, plain}
 use Rattle.refusal.specs.Rules.{Coded, done, no}
+use Rattle.parts.specs.declared.Message.{Message}
 use Rattle.protocol.specs.declared.Call.{Call}
 use Rattle.protocol.specs.declared.Call.TheVariants.{Deliver}
 use Rattle.protocol.specs.declared.Reply.{Reply}
 use Rattle.protocol.specs.declared.Reply.TheVariants.{Ran}
-use Rattle.protocol.specs.State.{State, well_formed as lists_are_well_formed}
+use Rattle.protocol.specs.State.{State, status_at, well_formed as lists_are_well_formed}
 use Rattle.protocol.specs.Calls.{refused as lists_refused, apply_of as apply_to_lists}
 use Rattle.protocol.specs.History.{History, start, advanced, run as run_lists, history}
+use Rattle.protocol.specs.Claim.{requests, Settled}
 use Rattle.protocol.specs.Drain.{places, drained as drained_lists, drain_of as drain_lists}
 use Rattle.protocol.proofs.Lively.{steady}
 use Rattle.protocol.proofs.Drains.{deliveries_are_calls}
@@ -27,7 +31,8 @@ use Rattle.network.specs.declared.Network.{Network}
 use Rattle.network.specs.Arrays.{live, well_formed, held, empty}
 use Rattle.network.proofs.Lengths.{Lengths}
 use Rattle.network.proofs.ArrayLaws.{live-held, held_well_formed, held-live}
-use Rattle.engine.specs.Outcomes.{refused, in_arrays, apply_of, drain_of, run}
+use Rattle.engine.specs.Outcomes.{Applied, refused, in_arrays, apply_of, drain_of, run}
+use Rattle.engine.specs.Accounts.{sum_of, posts, grants, denials, AddsUpClaim}
 
 -- ---- 6: a network that is not well formed comes back as it is
 pub malformed : (n : Network) (call : Call) → well_formed n ≡ false → apply_of n call ≡ refused n (plain 6)
@@ -91,6 +96,32 @@ run_well_formed calls = rw (run-empty calls) (held_well_formed (history calls).s
 -- and what the next call says is what the rules say of the lists
 pub run-says : (calls : List Call) (call : Call) → (apply_of (run empty calls) call).said ≡ (apply_to_lists (history calls).state call).said
 run-says calls call = rw (run-empty calls, apply_held (history calls).state call (lists_stay_well_formed calls))
+
+-- ---- what the calls on the arrays add up to is what the history counts
+-- f measures what a call on the arrays comes to, and g is what the history has counted of it
+summed : (f : Applied → ℕ) (g : History → ℕ) → ((h : History) (call : Call) → g (advanced h call) ≡ g h + f (in_arrays (apply_to_lists h.state call)))
+    → (calls : List Call) (h : History) → lists_are_well_formed h.state ≡ true → g (run_lists h calls) ≡ g h + sum_of f (held h.state) calls
+summed f g adds [] h w = omega arith
+summed f g adds (call ∷ calls) h w =
+    let kept : lists_are_well_formed (apply_to_lists h.state call).state ≡ true = is_true _ ((steady h.state (holds w)).kept call) in
+    rw (apply_held h.state call w) (omega (arith, adds h call, summed f g adds calls (advanced h call) kept))
+
+pub adds_up : AddsUpClaim
+unfolding lists_are_well_formed
+adds_up calls =
+    let sound = ring calls in
+    let sent = summed posts (λ h. h.posts) (λ h call. refl) calls start refl in
+    let granted = summed grants (λ h. h.grants) (λ h call. refl) calls start refl in
+    let denied = summed denials (λ h. h.denials) (λ h call. refl) calls start refl in
+    let waiting = ap (λ (n : Network). n.waiting) (run-empty calls) in
+    record {
+      settled = λ none u. subst (λ s. Settled (status_at s u)) (sym (run-live calls)) (sound.settled (nothing-left (history calls).state.messages (sym waiting ∙ none)) u);
+      accounts = omega (arith, sound.accounts, sent, granted, denied, ap (λ (s : State). requests s.messages) (run-live calls));
+    }
+  where
+    nothing-left : (l : List Message) → length l ≡ 0 → l ≡ []
+    nothing-left [] e = refl
+    nothing-left (m ∷ l) e = absurd (omega arith)
 
 -- ---- a drain counts as the deliveries it makes
 drain_held : (s : State) (budget : ℕ) → lists_are_well_formed s ≡ true → drain_of (held s) budget ≡ in_arrays (drained_lists s (places budget s))

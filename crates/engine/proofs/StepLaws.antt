@@ -30,7 +30,7 @@ use Rattle.node.specs.declared.Outcome.{Outcome}
 use Rattle.node.specs.declared.Outcome.TheVariants.{Waiting, LeftAlone}
 use Rattle.parts.specs.Tests.{is_out, is_in, seq_of}
 use Rattle.parts.specs.Posts.{posted}
-use Rattle.node.specs.Actions.{Effect, refused, quiet, posting, with_status, not_between, create_rules, creating, create_of, join_rules, asking, join_of, alone, leave_rules, leave_request, leaving, leave_of, on_set_r_ack, on_set_r_nak, on_kind, act_of, would_grant}
+use Rattle.node.specs.Actions.{Effect, refused, quiet, posting, with_status, not_between, create_rules, creating, create_of, join_rules, asking, join_of, alone, leave_rules, leave_request, leaving, leave_of, on_set_r_ack, on_set_r_nak, on_kind, while_out, act_of, would_grant}
 use Rattle.node.proofs.ActionLaws.{granted, join-accepted, leave-alone-accepted, leave-accepted}
 use Rattle.protocol.specs.State.{State, queue_limit, declared, node_at, notice_waits, well_formed}
 use Rattle.protocol.specs.Calls.{is_full, peer_at, join_rules as join_call_rules, leave_rules as leave_call_rules, message_at, is_grantable, deliver_rules, receiving}
@@ -116,8 +116,14 @@ module _ (me : ℕ) (u : Node) (v : ℕ) where
   granted-posts (SetL left n) g = impossible g
 
   other-posts : (kind : Kind) → would_grant u v kind ≡ false → length (act_of me u v kind).posts ≤ 1
-  other-posts kind f = by_test (λ (e : Effect). length e.posts ≤ 1) (is_out u.status) _ _ (λ _. omega arith) (λ _. acting kind f)
+  other-posts kind f = by_test (λ (e : Effect). length e.posts ≤ 1) (is_out u.status) _ _ (λ _. out kind) (λ _. acting kind f)
     where
+      out : (kind : Kind) → length (while_out me u v kind).posts ≤ 1
+      out (SetR new e n) = omega arith
+      out (SetRAck n) = omega arith
+      out SetRNak = omega arith
+      out (SetL left n) = omega arith
+
       acting : (kind : Kind) → would_grant u v kind ≡ false → length (on_kind me u v kind).posts ≤ 1
       acting (SetR new e n) f = rw f (omega arith)
       acting (SetRAck n) f = ack-posts u u.status n

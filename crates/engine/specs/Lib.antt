@@ -3,3 +3,4 @@ pub mod Answers
 pub mod InArrays
 pub mod Computed
 pub mod Reached
+pub mod Accounts

@@ -34,6 +34,8 @@ pub struct Network {
     nodes: ArrayVec<Node, 32>,
     messages: ArrayVec<Message, 64>,
     posted: usize,
+    granted: usize,
+    denied: usize,
     passed_over: usize,
 }
 
@@ -100,12 +102,24 @@ impl Network {
         self.nodes.iter().all(|node| node.status == Status::Out)
     }
 
-    /// No node is in, some are not out, and nothing is under way: from here on no request is
-    /// granted.
-    pub fn is_stuck(&self) -> bool {
-        self.messages.is_empty()
-            && !self.are_all_out()
-            && self.nodes.iter().all(|node| node.status != Status::In)
+    /// As many requests and answers are under way as nodes wait for an answer. So no node does where
+    /// nothing is under way.
+    pub fn loses_no_request(&self) -> bool {
+        let waits = |node: &&Node| matches!(node.status, Status::Ins | Status::Del);
+        let is_exchange = |message: &&Message| message.kind != Kind::SetL;
+        self.nodes.iter().filter(waits).count() == self.messages.iter().filter(is_exchange).count()
+    }
+
+    /// Three messages were posted for each grant, two for each denial and one for each request that
+    /// is under way.
+    pub fn accounts_balance(&self) -> bool {
+        let is_request = |message: &&Message| message.kind == Kind::SetR;
+        let requests = self.messages.iter().filter(is_request).count();
+        let answered = self
+            .granted
+            .saturating_mul(3)
+            .saturating_add(self.denied.saturating_mul(2));
+        self.posted == answered.saturating_add(requests)
     }
 
     pub(crate) fn declare(&mut self, key: u32) -> Result<Answer, Refusal> {
@@ -247,6 +261,11 @@ impl Network {
         }
         for message in step.posts.iter().flatten() {
             self.post(*message);
+        }
+        match step.outcome {
+            Outcome::Granted => self.granted = self.granted.saturating_add(1),
+            Outcome::Denied => self.denied = self.denied.saturating_add(1),
+            _ => {}
         }
         step.outcome
     }

@@ -76,9 +76,9 @@ impl Node {
 
     pub fn outcome(&self, taken: &Message) -> Outcome {
         match (self.status, taken.kind) {
-            (Status::Out, _) => Outcome::Dropped,
             (_, Kind::SetR) if self.grants(taken) => Outcome::Granted,
             (_, Kind::SetR) => Outcome::Denied,
+            (Status::Out, _) => Outcome::Dropped,
             (_, Kind::SetL) if taken.number > self.left_number => Outcome::LeftSet,
             (_, Kind::SetL) => Outcome::LeftOld,
             (Status::In, _) => Outcome::Dropped,

@@ -28,7 +28,7 @@ use Rattle.node.specs.declared.Peer.{Peer}
 use Rattle.node.specs.Shape.{node_fits, capacity, well_formed, deliverable, peer_fits}
 use Rattle.node.specs.declared.Outcome.{Outcome}
 use Rattle.node.specs.declared.Outcome.TheVariants.{Waiting, LeftOld, Dropped}
-use Rattle.node.specs.Actions.{Effect, refused, quiet, posting, set_l, with_status, create_rules, created, creating, create_of, join_rules, joining, asking, join_of, alone, leave_rules, leave_request, leaving, leave_of, grants, notice, ack, relinked, granting, on_set_r, confirmed, on_set_r_ack, on_set_r_nak, left_set, on_set_l, on_kind, act_of, receive_rules, receive_of}
+use Rattle.node.specs.Actions.{Effect, refused, quiet, posting, set_l, with_status, create_rules, created, creating, create_of, join_rules, joining, asking, join_of, alone, leave_rules, leave_request, leaving, leave_of, grants, notice, ack, relinked, granting, denied, on_set_r, confirmed, on_set_r_ack, on_set_r_nak, left_set, on_set_l, on_kind, while_out, act_of, receive_rules, receive_of}
 use Rattle.node.proofs.ActionLaws.{Grant, granted}
 
 -- ---- the facts that the test of a node says
@@ -177,8 +177,11 @@ module _ (count me : ℕ) (me-in : ltb me count ≡ true) (u : Node) (f : NodeFi
           }
 
   module _ (v : ℕ) (v-in : ltb v count ≡ true) where
+    denied-fits : EffectFits count (denied me u v)
+    denied-fits = record { node = f; posts = (message-fits count _ me-in v-in refl, tt) }
+
     set-r-fits : (new expected number : ℕ) → ltb new count ≡ true → EffectFits count (on_set_r me u v new expected number)
-    set-r-fits new expected number h = cond-fits (grants u v new expected) _ _ (λ g. grant (granted u v new expected g)) (λ _. record { node = f; posts = (message-fits count _ me-in v-in refl, tt) })
+    set-r-fits new expected number h = cond-fits (grants u v new expected) _ _ (λ g. grant (granted u v new expected g)) (λ _. denied-fits)
       where
         notice-fits : linked u.right ≡ true → message_fits count (notice me u v new number) ≡ true
         notice-fits r = go (eqb new v)
@@ -214,11 +217,18 @@ module _ (count me : ℕ) (me-in : ltb me count ≡ true) (u : Node) (f : NodeFi
     kind_fits_lem SetRNak k = set-r-nak-fits u.status refl
     kind_fits_lem (SetL left number) k = set-l-fits left number k
 
+    while-out-fits : (kind : Kind) → EffectFits count (while_out me u v kind)
+    while-out-fits (SetR new expected number) = denied-fits
+    while-out-fits (SetRAck number) = quiet-fits f Dropped
+    while-out-fits SetRNak = quiet-fits f Dropped
+    while-out-fits (SetL left number) = quiet-fits f Dropped
+
   pub receive-fits : (m : Message) → message_fits count m ≡ true → EffectFits count (receive_of me u m)
   unfolding receive_of
   receive-fits m h =
       let facts = message-facts count m h in
-      ruled-fits f (first (receive_rules me u m)) (act_of me u m.sender m.kind) (λ clear. cond-fits (is_out u.status) _ _ (λ _. quiet-fits f Dropped) (λ _. kind_fits_lem m.sender facts.sender m.kind facts.kind))
+      ruled-fits f (first (receive_rules me u m)) (act_of me u m.sender m.kind) (λ clear.
+      cond-fits (is_out u.status) _ _ (λ _. while-out-fits m.sender facts.sender m.kind) (λ _. kind_fits_lem m.sender facts.sender m.kind facts.kind))
 
 -- ---- what a node that fits has: its links unless it is out, its right number while it is in or
 -- del

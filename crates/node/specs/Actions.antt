@@ -194,7 +194,7 @@ relinked p new number = with_right (Some new) (Some number) p
 abbrev pub granting : Node → Message → Message → Effect
 granting p notice answer = record { node = p; posts = notice ∷ answer ∷ []; said = done Granted }
 
--- R5.9: p is as it was, and v hears SetRNak
+-- R5.9, R5.13: p is as it was, and v hears SetRNak
 abbrev pub denied : ℕ → Node → ℕ → Effect
 denied me p v = posting p (set_r_nak me v) Denied
 
@@ -242,9 +242,16 @@ on_kind me u v (SetRAck number) = on_set_r_ack u.status u number
 on_kind me u v SetRNak = on_set_r_nak u.status u
 on_kind me u v (SetL left number) = on_set_l u left number
 
--- R5.13: a node that is out drops a message of any kind
+-- R5.13: what a node that is out does with each kind
+abbrev pub while_out : ℕ → Node → ℕ → Kind → Effect
+while_out me u v (SetR new expected number) = denied me u v
+while_out me u v (SetRAck number) = quiet u Dropped
+while_out me u v SetRNak = quiet u Dropped
+while_out me u v (SetL left number) = quiet u Dropped
+
+-- R5.13: that comes first, and else what the kind says
 abbrev pub act_of : ℕ → Node → ℕ → Kind → Effect
-act_of me u v kind = cond (is_out u.status) (quiet u Dropped) (on_kind me u v kind)
+act_of me u v kind = cond (is_out u.status) (while_out me u v kind) (on_kind me u v kind)
 
 -- R6.4: a message is refused 6, and by nothing else
 abbrev pub receive_rules : ℕ → Node → Message → List Rule

@@ -1,6 +1,6 @@
 //! Receiving a message: any one by its kind, and one of each kind.
 ghost use Rattle.std.specs.Prelude.{◌≡◌};
-ghost use Rattle.node.specs.Actions.{effect, set_r, set_r_ack, set_r_nak, set_l, act_of, receive_of};
+ghost use Rattle.node.specs.Actions.{effect, set_r, set_r_ack, set_r_nak, set_l, while_out, act_of, receive_of};
 
 use crate::{Node, Outcome, Step, shape};
 use parts::{Kind, Message, Status};
@@ -8,13 +8,25 @@ use refusal::Refusal;
 use sequence::Number;
 
 impl Node {
-    /// What a node does with a message, by its kind, unless it is out (R5.13): the action alone,
-    /// with no test of node or message.
+    // What a node that is out does with each kind (R5.13).
+    fn act_while_out(self, me: u8, sender: u8, kind: Kind) -> Step
+        ensures { effect result ≡ while_out me self sender kind }
+    {
+        match kind {
+            Kind::SetR { .. } => self.deny(me, sender),
+            Kind::SetRAck { .. } | Kind::SetRNak | Kind::SetL { .. } => {
+                self.silent(Outcome::Dropped)
+            }
+        }
+    }
+
+    /// What a node does with a message, by its kind: the action alone, with no test of node or
+    /// message.
     pub fn act(self, me: u8, sender: u8, kind: Kind) -> Step
         ensures { effect result ≡ act_of me self sender kind }
     {
         if self.status == Status::Out {
-            return self.silent(Outcome::Dropped);
+            return self.act_while_out(me, sender, kind);
         }
         match kind {
             Kind::SetR {

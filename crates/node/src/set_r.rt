@@ -1,7 +1,7 @@
 //! SetR (R5.5, R5.6, R5.7, R5.8, R5.9): a node grants or denies a request to change its right link.
 ghost use Rattle.std.specs.Prelude.{◌≡◌};
 ghost use Rattle.parts.specs.Tests.{seq_of};
-ghost use Rattle.node.specs.Actions.{effect, grants, would_grant, on_set_r};
+ghost use Rattle.node.specs.Actions.{effect, grants, would_grant, denied, on_set_r};
 
 use crate::{Node, Outcome, Step};
 use parts::{Kind, Message, Posts, Status};
@@ -36,16 +36,23 @@ impl Node {
                 & ((new != sender) | sequence::has_next(self.right_number())))
     }
 
+    // R5.9; and all that a node that is out does with a request (R5.13).
+    pub(crate) fn deny(self, me: u8, sender: u8) -> Step
+        ensures { effect result ≡ denied me self sender }
+    {
+        let nak = Message {
+            sender: me,
+            to: sender,
+            kind: Kind::SetRNak,
+        };
+        self.posts_one(nak, Outcome::Denied)
+    }
+
     pub(crate) fn on_set_r(self, me: u8, sender: u8, new: u8, expected: u8, number: Number) -> Step
         ensures { effect result ≡ on_set_r me self sender new expected number }
     {
         if !self.grants_request(sender, new, expected) {
-            let nak = Message {
-                sender: me,
-                to: sender,
-                kind: Kind::SetRNak,
-            };
-            return self.posts_one(nak, Outcome::Denied);
+            return self.deny(me, sender);
         }
         let next = sequence::capped_next(self.right_number());
         let relinked = Node {

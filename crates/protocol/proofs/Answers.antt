@@ -16,12 +16,13 @@ use Rattle.parts.specs.declared.Message.{Message}
 use Rattle.node.specs.declared.Node.{Node}
 use Rattle.node.specs.Actions.{set_r, set_r_ack, set_r_nak, set_l, with_status, confirmed}
 use Rattle.protocol.specs.State.{is_ack_to, is_exchange_of, is_inserted}
+use Rattle.protocol.specs.Claim.{Settled}
 use Rattle.parts.specs.Tests.{is_notice}
 use Rattle.protocol.proofs.Nodes.{At, unchanged}
 use Rattle.protocol.proofs.Waiting.{Taken, Limited, apart, request-exchange, ack-exchange, nak_exchange, only-exchange, no-ack, acks-left}
 use Rattle.protocol.proofs.Fields.{status_of, key_of, left_of, right_of, lseq_of, rseq_of}
 use Rattle.protocol.proofs.Invariant.{is_member, Member, Keeps, stored, coming, Invariant}
-use Rattle.protocol.proofs.Frames.{Settled, settled_in, settled_out, ins_not_del, member-same, request-same, keeps_same, left-same, same-order}
+use Rattle.protocol.proofs.Frames.{settled_in, settled_out, ins_not_del, member-same, request-same, keeps_same, left-same, same-order}
 
 -- m is an answer to i, which then stands as x, settled, with the links and the left number it had
 module _ {N N' : ℕ → Node} {M rest : List Message} {told joins : ℕ → Bool} {m : Message} {i : ℕ} {x : Node}

@@ -28,7 +28,7 @@ use Rattle.parts.specs.declared.Kind.TheVariants.{SetR, SetRAck, SetRNak, SetL}
 use Rattle.parts.specs.declared.Message.{Message}
 use Rattle.parts.specs.Tests.{is_out, is_in_or_del, target, seq_of, is_request, is_answer}
 use Rattle.node.specs.Shape.{capacity}
-use Rattle.node.specs.Actions.{Effect, alone, leave_rules as leave_step_rules, grants, on_set_r, on_set_r_ack, on_set_r_nak, on_set_l, on_kind, act_of, would_grant}
+use Rattle.node.specs.Actions.{Effect, alone, leave_rules as leave_step_rules, grants, on_set_r, on_set_r_ack, on_set_r_nak, on_set_l, on_kind, while_out, act_of, would_grant}
 use Rattle.node.proofs.ActionLaws.{tested_out, tested_in, tested-link, granted, create-accepted, join-accepted, leave-alone-accepted, leave-accepted, receive-accepted, join-granted, leave-granted}
 use Rattle.node.proofs.FitLaws.{NodeFits, message-facts, left-named, right-named, number-named, deliverable-among}
 use Rattle.protocol.specs.declared.Call.{Call}
@@ -125,9 +125,16 @@ module _ (s : State) (v p : ℕ) (rest : List Message) where
   abbrev ActsBy : Kind → Effect → Type 0
   ActsBy kind e = Act s (record { sender = v; to = p; kind = kind }) rest (commit s p rest e)
 
+  -- a node that is out, which no answer is for
+  out-case : (kind : Kind) → status_at s p ≡ Out → (is_answer kind ≡ true → exchanges (status_at s p) ≢ 0) → ActsBy kind (while_out p (node_at s p) v kind)
+  out-case (SetR new e n) out waits = denies v p new e n refl refl
+  out-case (SetRAck n) out waits = absurd (waits refl (ap exchanges out))
+  out-case SetRNak out waits = absurd (waits refl (ap exchanges out))
+  out-case (SetL left n) out waits = drops v p left n refl out (rw append-nil)
+
   module _ {count : ℕ} (fits : NodeFits count (node_at s p)) (not_out : status_at s p ≢ Out) where
     request-case : (new e : ℕ) (n : Number) → (grants (node_at s p) v new e ≡ true → length s.messages < queue_limit) → ActsBy (SetR new e n) (on_set_r p (node_at s p) v new e n)
-    request-case new e n room = ⊎_elim grant (λ f. denies v p new e n refl not_out (rw f)) (decided (grants (node_at s p) v new e))
+    request-case new e n room = ⊎_elim grant (λ f. denies v p new e n refl (rw f)) (decided (grants (node_at s p) v new e))
       where
         facts : grants (node_at s p) v new e ≡ true → Grants s p e (seq_of (node_at s p).rseq)
         facts g =
@@ -142,17 +149,17 @@ module _ (s : State) (v p : ℕ) (rest : List Message) where
             go (yes d) = lets_in v p e n _ (rw d) (facts g) ((granted (node_at s p) v new e g).room (eq-eqb new v d)) (rw (join-granted (node_at s p) p v new e n g d))
             go (no d) = lets_go v p new e n _ refl d (facts g) (rw (leave-granted (node_at s p) p v new e n g d))
 
-    ack-case : (n : ℕ) (t : Status) → status_at s p ≡ t → t ≢ In → ActsBy (SetRAck n) (on_set_r_ack t (node_at s p) n)
-    ack-case n Out e not_in = drops e (rw append-nil)
-    ack-case n Ins e not_in = joins v p n refl e (rw append-nil)
-    ack-case n In e not_in = absurd (not_in refl)
-    ack-case n Del e not_in = goes v p n refl e (rw append-nil)
+    ack-case : (n : ℕ) (t : Status) → status_at s p ≡ t → exchanges t ≢ 0 → ActsBy (SetRAck n) (on_set_r_ack t (node_at s p) n)
+    ack-case n Out e waits = absurd (waits refl)
+    ack-case n Ins e waits = joins v p n refl e (rw append-nil)
+    ack-case n In e waits = absurd (waits refl)
+    ack-case n Del e waits = goes v p n refl e (rw append-nil)
 
-    nak-case : (t : Status) → status_at s p ≡ t → t ≢ In → ActsBy SetRNak (on_set_r_nak t (node_at s p))
-    nak-case Out e not_in = drops e (rw append-nil)
-    nak-case Ins e not_in = stays_out v p refl e (rw append-nil)
-    nak-case In e not_in = absurd (not_in refl)
-    nak-case Del e not_in = stays_in v p refl e (rw append-nil)
+    nak-case : (t : Status) → status_at s p ≡ t → exchanges t ≢ 0 → ActsBy SetRNak (on_set_r_nak t (node_at s p))
+    nak-case Out e waits = absurd (waits refl)
+    nak-case Ins e waits = stays_out v p refl e (rw append-nil)
+    nak-case In e waits = absurd (waits refl)
+    nak-case Del e waits = stays_in v p refl e (rw append-nil)
 
     notice-case : (left : ℕ) (n : Number) → ActsBy (SetL left n) (on_set_l (node_at s p) left n)
     notice-case left n =
@@ -160,22 +167,22 @@ module _ (s : State) (v p : ℕ) (rest : List Message) where
         (λ t. takes v p left n refl not_out t (rw append-nil))
         (λ f. ignores v p left n refl not_out f (rw append-nil))
 
-    kind-case : (kind : Kind) → (would_grant (node_at s p) v kind ≡ true → length s.messages < queue_limit) → (is_answer kind ≡ true → status_at s p ≢ In)
+    kind-case : (kind : Kind) → (would_grant (node_at s p) v kind ≡ true → length s.messages < queue_limit) → (is_answer kind ≡ true → exchanges (status_at s p) ≢ 0)
         → ActsBy kind (on_kind p (node_at s p) v kind)
-    kind-case (SetR new e n) room not_in = request-case new e n room
-    kind-case (SetRAck n) room not_in = ack-case n (status_at s p) refl (not_in refl)
-    kind-case SetRNak room not_in = nak-case (status_at s p) refl (not_in refl)
-    kind-case (SetL left n) room not_in = notice-case left n
+    kind-case (SetR new e n) room waits = request-case new e n room
+    kind-case (SetRAck n) room waits = ack-case n (status_at s p) refl (waits refl)
+    kind-case SetRNak room waits = nak-case (status_at s p) refl (waits refl)
+    kind-case (SetL left n) room waits = notice-case left n
 
 module _ (s : State) (w : WellFormed s) (m : Message) (waits : m ∈ s.messages) where
   pub declared-addressee : m.to < length s.nodes
   declared-addressee = ltb-true m.to (length s.nodes) (message-facts (length s.nodes) m (w.message m waits)).to
 
-  -- an answer is its addressee's one exchange, and a node that is in has none
-  answered-not-in : is_answer m.kind ≡ true → status_at s m.to ≢ In
-  answered-not-in answer is-in =
+  -- an answer is its addressee's one exchange, and a node that is out or in has none
+  answer-awaited : is_answer m.kind ≡ true → exchanges (status_at s m.to) ≢ 0
+  answer-awaited answer none =
       let own : is_exchange_of m.to m ≡ true = or_right (is_request m.kind && eqb m.sender m.to) _ (rw answer (eq-eqb m.to m.to refl)) in
-      omega (arith, count-in (is_exchange_of m.to) waits own, w.exchange m.to declared-addressee, ap exchanges is-in)
+      omega (arith, count-in (is_exchange_of m.to) waits own, w.exchange m.to declared-addressee)
 
   -- the addressee's own rules do not refuse it
   pub received : receiving s m ≡ act_of m.to (node_at s m.to) m.sender m.kind
@@ -190,11 +197,11 @@ module _ (s : State) (w : WellFormed s) (m : Message) (waits : m ∈ s.messages)
       let fits = w.node m.to declared-addressee in
       rw received
       (by_test (ActsBy s m.sender m.to rest m.kind) (is_out (status_at s m.to)) _ _
-      (λ t. drops (tested_out (status_at s m.to) t) (rw append-nil))
-      (λ f. kind-case s m.sender m.to rest fits (λ o. not-both (ap is_out o) f) m.kind room answered-not-in))
+      (λ t. out-case s m.sender m.to rest m.kind (tested_out (status_at s m.to) t) answer-awaited)
+      (λ f. kind-case s m.sender m.to rest fits (λ o. not-both (ap is_out o) f) m.kind room answer-awaited))
 
 -- a message that waits, where it is not a request that a full queue bars
-waiting_case : (s : State) (w : WellFormed s) (place : ℕ) → place < length s.messages → (is_full s && is_grantable s place) ≡ false
+pub waiting_case : (s : State) (w : WellFormed s) (place : ℕ) → place < length s.messages → (is_full s && is_grantable s place) ≡ false
     → Delivers s place (message_at s place) (without place s.messages) × Act s (message_at s place) (without place s.messages) (delivering s place)
 waiting_case s w place present room =
     let out = taken s place present in (

@@ -85,12 +85,12 @@ pub record Grants (s : State) (p e : ℕ) (k : Number) : Type 0 where
 
 -- ---- what node m .to does with the message m, the rest still waiting
 pub data Act (s : State) (m : Message) (rest : List Message) (r : Result) : Type 0 where
-  drops : status_at s m.to ≡ Out → r ≡ moved s m.to (node_at s m.to) rest Dropped → Act s m rest r
+  drops : (p u a : ℕ) (n : Number) → m ≡ set_l p u a n → status_at s u ≡ Out → r ≡ moved s u (node_at s u) rest Dropped → Act s m rest r
   lets_in : (v p e : ℕ) (n k : Number) → m ≡ set_r v p v e n → Grants s p e k → has_next k ≡ true
       → r ≡ sent s p (relinked (node_at s p) v n) rest (set_l p e v (next_seq k) ∷ set_r_ack p v (next_seq k) ∷ []) Granted → Act s m rest r
   lets_go : (v p new e : ℕ) (n k : Number) → m ≡ set_r v p new e n → new ≢ v → Grants s p e k
       → r ≡ sent s p (relinked (node_at s p) new n) rest (set_l p new p n ∷ set_r_ack p v (capped_next k) ∷ []) Granted → Act s m rest r
-  denies : (v p new e : ℕ) (n : Number) → m ≡ set_r v p new e n → status_at s p ≢ Out → r ≡ sent s p (node_at s p) rest (set_r_nak p v ∷ []) Denied → Act s m rest r
+  denies : (v p new e : ℕ) (n : Number) → m ≡ set_r v p new e n → r ≡ sent s p (node_at s p) rest (set_r_nak p v ∷ []) Denied → Act s m rest r
   joins : (p u : ℕ) (n : Number) → m ≡ set_r_ack p u n → status_at s u ≡ Ins → r ≡ moved s u (confirmed (node_at s u) n) rest Joined → Act s m rest r
   goes : (p u : ℕ) (n : Number) → m ≡ set_r_ack p u n → status_at s u ≡ Del → r ≡ moved s u (with_status Out (node_at s u)) rest Gone → Act s m rest r
   stays_out : (p u : ℕ) → m ≡ set_r_nak p u → status_at s u ≡ Ins → r ≡ moved s u (with_status Out (node_at s u)) rest JoinDenied → Act s m rest r

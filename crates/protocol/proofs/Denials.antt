@@ -1,25 +1,23 @@
--- The invariant holds after the delivery of a request that is denied, and of any message to a node
--- that is out: no node changes, and of what waited nothing goes that the invariant speaks of.
--- Assumes nothing.
+-- The invariant holds after the delivery of a request that is denied, and of a notice to a node that
+-- is out: no node changes, and of what waited nothing goes that the invariant speaks of. Assumes
+-- nothing.
 use mathlib.Core.Path.{◌≡◌, refl, sym, ap, ◌∙◌}
 use mathlib.Core.Logic.{⊎_elim, ◌≢◌}
-use mathlib.Core.Bool.{Bool, true, false}
+use mathlib.Core.Bool.{Bool, false}
 use mathlib.Core.List.Memᴰ.{append_left as in_left}
 use mathlib.Core.List.{List, [], ◌∷◌, ◌++◌}
 use Prim.Native.Nat.{ℕ}
-use borrow.Author.Tests.{eqb-true}
 use Rattle.sequence.specs.Sequence.{Number}
 use Rattle.predicates.specs.Tests.{any}
-use Rattle.predicates.proofs.Laws.{both}
-use Rattle.predicates.proofs.TestLaws.{◌∈◌, decided, not-both}
+use Rattle.predicates.proofs.TestLaws.{◌∈◌}
 use Rattle.parts.specs.declared.Status.TheVariants.{Out}
 use Rattle.parts.specs.declared.Message.{Message}
 use Rattle.node.specs.declared.Node.{Node}
 use Rattle.node.specs.Actions.{set_r, set_r_nak, set_l}
-use Rattle.protocol.specs.State.{is_ack_to, exchanges}
-use Rattle.parts.specs.Tests.{is_ack, is_nak, is_notice}
+use Rattle.protocol.specs.State.{is_ack_to}
+use Rattle.parts.specs.Tests.{is_nak, is_notice}
 use Rattle.protocol.proofs.Nodes.{At, unchanged}
-use Rattle.protocol.proofs.Waiting.{Taken, Limited, apart, in_one, same-any, ack-is-exchange, no-exchange, acks-left}
+use Rattle.protocol.proofs.Waiting.{Taken, apart, in_one, same-any, acks-left}
 use Rattle.protocol.proofs.Fields.{status_of, key_of, left_of, right_of, lseq_of, rseq_of, to_of}
 use Rattle.protocol.proofs.Invariant.{is_member, Invariant}
 use Rattle.protocol.proofs.Frames.{member-same, member_not_out, request-same, keeps_same, left-same, same-order}
@@ -63,15 +61,9 @@ module _ {N N' : ℕ → Node} {M rest : List Message} {told joins : ℕ → Boo
       (λ x f j. ⊎_elim (λ k. t.left x k) (λ d. absurd (apart (λ y. is_nak y.kind) refl f (sym d))) (in_one rest j))
       (λ w u a k _ j. in_left _ (⊎_elim (λ d. absurd (apart (λ y. is_notice y.kind) refl refl d)) (λ l. l) (t.either _ j)))
 
-  -- R5.13: a node that is out drops a message
-  pub drops-kept : {m : Message} → Limited N M → m.to ≡ i → (N i).status ≡ Out → Taken M m rest → Invariant N' rest told joins
-  drops-kept {m} limited to out t = unmoved inv (unchanged at (λ y. y) refl) (λ u. acks-left u t (no_answer u)) (λ x _ j. t.left x j) notice
+  -- R5.13: a node that is out drops a notice
+  pub drops-kept : {p a n : ℕ} → (N i).status ≡ Out → Taken M (set_l p i a n) rest → Invariant N' rest told joins
+  drops-kept {p} {a} {n} out t = unmoved inv (unchanged at (λ y. y) refl) (λ u. acks-left u t refl) (λ x _ j. t.left x j) notice
     where
-      no_answer : (u : ℕ) → is_ack_to u m ≡ false
-      no_answer u = ⊎_elim (λ a. absurd (not-both (ack-is-exchange u m a) (no-exchange limited u (idle u a) t.waits))) (λ f. f) (decided (is_ack_to u m))
-        where
-          idle : (u : ℕ) → is_ack_to u m ≡ true → exchanges (N u).status ≡ 0
-          idle u a = ap (λ w. exchanges (N w).status) (sym (eqb-true m.to u (both (is_ack m.kind) _ a).1) ∙ to) ∙ ap exchanges out
-
-      notice : (w u a : ℕ) (n : Number) → (N u).status ≢ Out → set_l w u a n ∈ M → set_l w u a n ∈ rest
-      notice w u a n d j = ⊎_elim (λ e. absurd (d (ap (λ k. (N k).status) (ap to_of e ∙ to) ∙ out))) (λ k. k) (t.either _ j)
+      notice : (w u b : ℕ) (k : Number) → (N u).status ≢ Out → set_l w u b k ∈ M → set_l w u b k ∈ rest
+      notice w u b k d j = ⊎_elim (λ e. absurd (d (ap (λ q. (N q).status) (ap to_of e) ∙ out))) (λ l. l) (t.either _ j)

@@ -20,7 +20,7 @@ use Rattle.protocol.specs.State.{State, well_formed}
 use Rattle.protocol.specs.Calls.{is_full, apply_of}
 use Rattle.protocol.specs.History.{History, start, advanced, run, history}
 use Rattle.protocol.specs.Answer.{accepted}
-use Rattle.protocol.specs.Drain.{lowest_from, lowest, after_delivery, places, deliver_all, drained, drain_of}
+use Rattle.protocol.specs.Drain.{lowest_from, lowest, after_delivery, places, deliver_all, posts_of_all, drained, drain_of}
 use Rattle.protocol.specs.FurtherClaims.{Drains, DrainClaim, DrainIsCalls}
 use Rattle.protocol.proofs.Lively.{steady}
 use Rattle.protocol.proofs.Posted.{posts-of-all}
@@ -127,8 +127,11 @@ run_deliveries h (place ∷ places) = run_deliveries (advanced h (Deliver place)
 pub deliveries_are_calls : (calls : List Call) (places : List ℕ) → deliver_all (history calls).state places ≡ (history (calls ++ map Deliver places)).state
 deliveries_are_calls calls places = run_deliveries (history calls) places ∙ ap (λ (h : History). h.state) (sym (run_append start calls (map Deliver places)))
 
+deliveries_post : (calls : List Call) (places : List ℕ) → (history calls).posts + length (posts_of_all (history calls).state places) ≡ (history (calls ++ map Deliver places)).posts
+deliveries_post calls places = posts-of-all (history calls) places ∙ ap (λ (h : History). h.posts) (sym (run_append start calls (map Deliver places)))
+
 pub drain_is_calls : DrainIsCalls
 drain_is_calls calls budget =
     let s = (history calls).state in
     let is = drain_is s budget (ring calls).well_formed in
-    record { state = rw is (deliveries_are_calls calls (places budget s)); posts = rw is (posts-of-all s (places budget s)) }
+    record { state = rw is (deliveries_are_calls calls (places budget s)); posts = rw is (deliveries_post calls (places budget s)) }

@@ -241,7 +241,7 @@ module _ (h : History) (g : Good h) where
 
   act-does : (place : ℕ) {m : Message} {rest : List Message} {r : Result} → message_at h.state place ≡ m → Taken h.state.messages m rest
       → m.to < length h.state.nodes → After h (Deliver place) r → Act h.state m rest r → Does h (Deliver place) r
-  act-does place at t k after (drops out er) = rw er (kept (set_at h.state.nodes k) refl refl (rw er at after))
+  act-does place at t k after (drops p u a n em out er) = rw er (kept (set_at h.state.nodes (rw em at k)) refl refl (rw er at after))
   act-does place at t k after (lets_in v p e n l em gr room er) =
       let c = granting-of h g e v (next_seq l) (next_seq l) (rw em at t) (rw em at k) gr in
       let event = granted-event h g place at em (g.invariant.exchanges.joiners v (is-joiner c)) in
@@ -250,7 +250,7 @@ module _ (h : History) (g : Good h) where
       let c = granting-of h g new p n (capped_next l) (rw em at t) (rw em at k) gr in
       let event = granted-event h g place at em (g.invariant.exchanges.leavers v (is-leaver c d)) in
       rw (er, event) (releases c d (rw (er, event) at after).order)
-  act-does place at t k after (denies v p new e n em out er) = rw er (kept (set_at h.state.nodes (rw em at k)) refl refl (rw er at after))
+  act-does place at t k after (denies v p new e n em er) = rw er (kept (set_at h.state.nodes (rw em at k)) refl refl (rw er at after))
   act-does place at t k after (joins p u n em ins er) = rw er (kept (set_at h.state.nodes (rw em at k)) refl refl (rw er at after))
   act-does place at t k after (goes p u n em del er) = rw er (kept (set_at h.state.nodes (rw em at k)) refl refl (rw er at after))
   act-does place at t k after (stays_out p u em ins er) = rw er (kept (set_at h.state.nodes (rw em at k)) refl refl (rw er at after))

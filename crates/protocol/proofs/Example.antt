@@ -1,7 +1,8 @@
 -- The definitions run on paper 01's example script: each call is answered as it must be, and
 -- afterwards both nodes are inserted, told so and by the definition, and link to each other both
--- ways, with nothing waiting. A longer list has granted leaves, refusal 25 and a second join. So
--- the claim is not about networks in which nothing happens. Each line computes. Assumes nothing.
+-- ways, with nothing waiting. A longer list has granted leaves, refusal 25 and a second join, and
+-- another a join that is denied by a node which has gone out. So the claim is not about networks in
+-- which nothing happens. Each line computes. Assumes nothing.
 use Rattle.std.specs.Prelude.{Some}
 use mathlib.Core.Path.{◌≡◌, refl}
 use mathlib.Core.Bool.{true, false}
@@ -11,11 +12,11 @@ use Rattle.sequence.specs.Sequence.{first_seq, last_seq, next_seq, newer, has_ne
 use Rattle.links.specs.Walk.{walk, falls}
 use Rattle.parts.specs.Shape.{message_fits}
 use Rattle.node.specs.Shape.{node_fits, well_formed as node_is_sound, deliverable, peer_fits}
-use Rattle.node.specs.Actions.{set_r, set_l, create_of, join_of, leave_of, grants, receive_of}
+use Rattle.node.specs.Actions.{set_r, set_r_ack, set_l, create_of, join_of, leave_of, grants, receive_of}
 use Rattle.protocol.specs.State.{empty, key_at, left_at, right_at, well_formed, inserted}
 use Rattle.protocol.specs.Calls.{apply_of}
 use Rattle.protocol.specs.History.{history}
-use Rattle.protocol.specs.Example.{answers, script, printed, late_notice, late_notice_said}
+use Rattle.protocol.specs.Example.{answers, script, printed, late_notice, late_notice_said, gone_neighbour, gone_neighbour_said}
 
 -- ---- paper 01's script; node 2 was never declared
 pub record AfterScript : Type 0 where
@@ -40,3 +41,15 @@ pub record AfterLateNotice : Type 0 where
 pub after_late_notice : AfterLateNotice
 unfolding apply_of well_formed inserted between first_seq last_seq next_seq newer has_next capped_next node_fits message_fits node_is_sound deliverable peer_fits create_of join_of leave_of grants receive_of
 after_late_notice = record { said = refl; told = refl; second_join = refl }
+
+-- ---- a join beside a node that has gone out; of eleven messages three were posted for each of
+-- three grants and two for the denial, and no request waits
+pub record AfterGoneNeighbour : Type 0 where
+  pub said : answers empty gone_neighbour ≡ gone_neighbour_said
+  pub are_inserted : inserted (history gone_neighbour).state 0 ∷ inserted (history gone_neighbour).state 1 ∷ inserted (history gone_neighbour).state 2 ∷ [] ≡ true ∷ false ∷ true ∷ []
+  pub counted : (history gone_neighbour).posts ∷ (history gone_neighbour).grants ∷ (history gone_neighbour).denials ∷ [] ≡ 11 ∷ 3 ∷ 1 ∷ []
+  pub wait : (history gone_neighbour).state.messages ≡ set_l 0 0 0 2 ∷ set_l 0 0 2 3 ∷ set_r_ack 0 2 3 ∷ []
+
+pub after_gone_neighbour : AfterGoneNeighbour
+unfolding apply_of well_formed inserted between first_seq last_seq next_seq newer has_next capped_next node_fits message_fits node_is_sound deliverable peer_fits create_of join_of leave_of grants receive_of
+after_gone_neighbour = record { said = refl; are_inserted = refl; counted = refl; wait = refl }

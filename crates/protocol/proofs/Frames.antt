@@ -17,13 +17,11 @@ use Rattle.parts.specs.declared.Message.{Message}
 use Rattle.node.specs.declared.Node.{Node}
 use Rattle.node.specs.Actions.{set_r_ack, set_l}
 use Rattle.protocol.specs.State.{is_ack_to, is_inserted}
+use Rattle.protocol.specs.Claim.{Settled}
 use Rattle.protocol.proofs.Fields.{status_of}
 use Rattle.protocol.proofs.Invariant.{is_member, Member, Request, Keeps, stored, coming, LeftLink, Round}
 
--- a status that waits for nothing
-abbrev pub Settled : Status → Type 0
-Settled s = (s ≢ Ins) × (s ≢ Del)
-
+-- a status that waits for no answer
 pub settled_in : Settled In
 settled_in = (λ e. impossible cc, λ e. impossible cc)
 

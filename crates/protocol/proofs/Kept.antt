@@ -1,10 +1,10 @@
--- Each call keeps a network well formed. An order finds a node with no exchanges, which it may give
--- one; a delivered request goes and an answer to the same node comes; a delivered answer goes, and
--- its node has no exchanges left. Each case of `Changes` shows its part, and `Moves` the rest.
--- Assumes nothing.
-use mathlib.Core.Path.{◌≡◌, refl, sym, ap}
+-- Each call keeps a network well formed, and loses no request. An order finds a node with no
+-- exchanges, which it may give one; a delivered request goes and an answer to the same node comes; a
+-- delivered answer goes, and its node has no exchanges left. Each case of `Changes` shows its part,
+-- and `Moves` the rest. Assumes nothing.
+use mathlib.Core.Path.{◌≡◌, refl, sym, ap, ◌∙◌}
 use mathlib.Core.Logic.{◌≢◌}
-use mathlib.Core.Bool.{true, not, or-false}
+use mathlib.Core.Bool.{true, false, not, or-false}
 use mathlib.Core.List.{List, [], ◌∷◌, ◌++◌}
 use Prim.Native.Nat.{ℕ, ◌+◌, ◌≤◌, ◌<◌}
 use native.Mathlib.Omega.{arith}
@@ -30,7 +30,7 @@ use Rattle.protocol.proofs.Facts.{WellFormed}
 use Rattle.protocol.proofs.Changes.{Creates, Joins, LeavesAlone, Leaves, Grants}
 use Rattle.protocol.proofs.Changes.{Act, drops, lets_in, lets_go, denies, joins, goes, stays_out, stays_in, takes, ignores}
 use Rattle.protocol.proofs.Changes.{Accepted, declares, creates, asks, goes_alone, leaves, delivers, Change, refuses, accepts}
-use Rattle.protocol.proofs.Moves.{AllFit, with_posts, Moves, moved-kept, declare_kept}
+use Rattle.protocol.proofs.Moves.{AllFit, with_posts, Moves, Preserves, moved-kept, declare_kept}
 
 -- ---- whose exchange a message is: a request is its sender's; that an answer is the addressee's
 -- computes
@@ -46,15 +46,15 @@ another's u v d = bit-false (ne_eqb u v (λ e. d (sym e)))
 module _ {s : State} (w : WellFormed s) where
   -- ---- the orders to a node that has no exchanges: it may get one, by its request
   module _ {u : ℕ} {x : Node} (h : u < length s.nodes) (none : exchanges (status_at s u) ≡ 0) (key : x.key ≡ key_at s u) (fits : NodeFits (length s.nodes) x) where
-    keeps-messages : Moves s u x s.messages
-    keeps-messages = record {
+    keeps-messages : exchanges x.status ≡ 0 → Moves s u x s.messages
+    keeps-messages still = record {
       declared = h;
       key = key;
       fits = fits;
       few = w.few_messages;
       messages = w.message;
-      exchange = omega (arith, w.exchange u h);
-      others = λ v d. omega arith;
+      exchange = omega arith;
+      others = λ v d. refl;
     }
 
     adds-request : (p new e : ℕ) (n : Number) → exchanges x.status ≡ 1 → length s.messages < queue_limit → message_fits (length s.nodes) (set_r u p new e n) ≡ true
@@ -65,7 +65,7 @@ module _ {s : State} (w : WellFormed s) where
       fits = fits;
       few = omega (arith, length-append s.messages (set_r u p new e n ∷ []));
       messages = with_posts (length s.nodes) s.messages (set_r u p new e n ∷ []) w.message (posted, tt);
-      exchange = omega (arith, w.exchange u h, more u, own u);
+      exchange = omega (arith, more u, own u);
       others = λ v d. omega (arith, more v, another's u v d);
     }
       where
@@ -75,7 +75,7 @@ module _ {s : State} (w : WellFormed s) where
   create-kept : {u : ℕ} → Creates s u → Moves s u (created u (node_at s u)) s.messages
   create-kept {u} h =
       let u-in = lt-ltb u (length s.nodes) h.declared in
-      keeps-messages h.declared (ap exchanges (h.all_out u h.declared)) refl (created-fits (w.node u h.declared) u u-in)
+      keeps-messages h.declared (ap exchanges (h.all_out u h.declared)) refl (created-fits (w.node u h.declared) u u-in) refl
 
   join_kept : {u p q : ℕ} → Joins s u p q → Moves s u (joining (node_at s u) (peer_at s p) (peer_at s q)) (s.messages ++ set_r u p u q (node_at s u).lseq ∷ [])
   join_kept {u} {p} {q} h =
@@ -86,7 +86,7 @@ module _ {s : State} (w : WellFormed s) where
       p u q (node_at s u).lseq refl h.room (message-fits (length s.nodes) (set_r u p u q (node_at s u).lseq) u-in p-in (simp (u-in, q-in)))
 
   leave-alone-kept : {u : ℕ} → LeavesAlone s u → Moves s u (with_status Out (node_at s u)) s.messages
-  leave-alone-kept {u} h = keeps-messages h.declared (ap exchanges h.is_in) refl (out-fits (w.node u h.declared))
+  leave-alone-kept {u} h = keeps-messages h.declared (ap exchanges h.is_in) refl (out-fits (w.node u h.declared)) refl
 
   leave-kept : {u p q : ℕ} {n : Number} → Leaves s u p q n → Moves s u (with_status Del (node_at s u)) (s.messages ++ set_r u p q u (next_seq n) ∷ [])
   leave-kept {u} {p} {q} {n} h =
@@ -102,39 +102,44 @@ module _ {s : State} (w : WellFormed s) where
     rest-fits : AllFit (length s.nodes) rest
     rest-fits x i = w.message x (t.left x i)
 
-    -- the node keeps its status, and posts no more exchanges than have gone with the message
+    -- the node keeps its status, and posts just the exchanges that have gone with the message
     adds-posts : {i : ℕ} {x : Node} (posts : List Message) → i < length s.nodes → x.key ≡ key_at s i → x.status ≡ status_at s i → NodeFits (length s.nodes) x
-        → length rest + length posts ≤ queue_limit → PostsFit (length s.nodes) posts → ((u : ℕ) → count (is_exchange_of u) posts ≤ bit (is_exchange_of u m)) → Moves s i x (rest ++ posts)
-    adds-posts {i} posts h key status fits few posted no_more = record {
+        → length rest + length posts ≤ queue_limit → PostsFit (length s.nodes) posts → ((u : ℕ) → count (is_exchange_of u) posts ≡ bit (is_exchange_of u m)) → Moves s i x (rest ++ posts)
+    adds-posts {i} posts h key status fits few posted instead = record {
       declared = h;
       key = key;
       fits = fits;
       few = omega (arith, length-append rest posts);
       messages = with_posts (length s.nodes) rest posts rest-fits posted;
-      exchange = omega (arith, w.exchange i h, exchange i, ap exchanges status);
+      exchange = omega (arith, exchange i, ap exchanges status);
       others = λ u d. exchange u;
     }
       where
-        exchange : (u : ℕ) → count (is_exchange_of u) (rest ++ posts) ≤ count (is_exchange_of u) s.messages
-        exchange u = omega (arith, count-append (is_exchange_of u) rest posts, t.counted (is_exchange_of u), no_more u)
+        exchange : (u : ℕ) → count (is_exchange_of u) (rest ++ posts) ≡ count (is_exchange_of u) s.messages
+        exchange u = omega (arith, count-append (is_exchange_of u) rest posts, t.counted (is_exchange_of u), instead u)
 
-    only-takes : {i : ℕ} {x : Node} → i < length s.nodes → x.key ≡ key_at s i → NodeFits (length s.nodes) x → count (is_exchange_of i) rest ≤ exchanges x.status → Moves s i x rest
-    only-takes h key fits exchange = record {
+    -- the message is an exchange of the node at most, by so much as its status then asks for less
+    only-takes : {i : ℕ} {x : Node} → i < length s.nodes → x.key ≡ key_at s i → NodeFits (length s.nodes) x → bit (is_exchange_of i m) + exchanges x.status ≡ exchanges (status_at s i)
+        → ((u : ℕ) → u ≢ i → bit (is_exchange_of u m) ≡ 0) → Moves s i x rest
+    only-takes {i} h key fits own others = record {
       declared = h;
       key = key;
       fits = fits;
       few = omega (arith, w.few_messages, t.shorter);
       messages = rest-fits;
-      exchange = exchange;
-      others = λ u d. omega (arith, t.counted (is_exchange_of u));
+      exchange = omega (arith, t.counted (is_exchange_of i));
+      others = λ u d. omega (arith, t.counted (is_exchange_of u), others u d);
     }
 
-    keeps-status : {i : ℕ} {x : Node} → i < length s.nodes → x.key ≡ key_at s i → x.status ≡ status_at s i → NodeFits (length s.nodes) x → Moves s i x rest
-    keeps-status {i} h key status fits = only-takes h key fits (omega (arith, w.exchange i h, t.counted (is_exchange_of i), ap exchanges status))
+    -- a notice is nobody's exchange
+    keeps-status : {i : ℕ} {x : Node} → i < length s.nodes → x.key ≡ key_at s i → x.status ≡ status_at s i → NodeFits (length s.nodes) x → ((u : ℕ) → is_exchange_of u m ≡ false)
+        → Moves s i x rest
+    keeps-status {i} h key status fits none = only-takes h key fits (omega (arith, bit-false (none i), ap exchanges status)) (λ u d. bit-false (none u))
 
-    -- the one exchange of the node goes with the message
-    is-answered : {u : ℕ} {x : Node} → u < length s.nodes → bit (is_exchange_of u m) ≡ 1 → exchanges (status_at s u) ≡ 1 → x.key ≡ key_at s u → NodeFits (length s.nodes) x → Moves s u x rest
-    is-answered {u} h its one key fits = only-takes h key fits (omega (arith, w.exchange u h, t.counted (is_exchange_of u)))
+    -- the one exchange of the node goes with the message, and it then waits for nothing
+    is-answered : {u : ℕ} {x : Node} → u < length s.nodes → ((v : ℕ) → is_exchange_of v m ≡ eqb u v) → exchanges (status_at s u) ≡ 1 → exchanges x.status ≡ 0
+        → x.key ≡ key_at s u → NodeFits (length s.nodes) x → Moves s u x rest
+    is-answered {u} h its one still key fits = only-takes h key fits (omega (arith, ap bit (its u), own u)) (λ v d. ap bit (its v) ∙ another's u v d)
 
   -- a request goes, and an answer to its sender comes
   module _ {v p new e : ℕ} {n : Number} {rest : List Message} (t : Taken s.messages (set_r v p new e n) rest) (h : p < length s.nodes) where
@@ -158,8 +163,10 @@ module _ {s : State} (w : WellFormed s) where
         adds-posts t (set_r_nak p v ∷ []) h refl refl (w.node p h)
         (omega (arith, w.few_messages, t.shorter)) (answer, tt) (λ u. omega (arith, request_of u v p new e n))
 
-  act-kept : {m : Message} {rest : List Message} {r : Result} → Taken s.messages m rest → m.to < length s.nodes → Act s m rest r → WellFormed r.state
-  act-kept {m} t h (drops e er) = rw er (moved-kept w (keeps-status t h refl refl (w.node m.to h)))
+  act-kept : {m : Message} {rest : List Message} {r : Result} → Taken s.messages m rest → m.to < length s.nodes → Act s m rest r → Preserves s r.state
+  act-kept t h (drops p u a n em out er) =
+      let h : u < length s.nodes = rw em at h in
+      rw er (moved-kept w (keeps-status t h refl refl (w.node u h) (λ v. rw em)))
   act-kept {rest} t h (lets_in v p e n k em g room er) =
       let t : Taken s.messages (set_r v p v e n) rest = rw em at t in
       let h : p < length s.nodes = rw em at h in
@@ -168,30 +175,30 @@ module _ {s : State} (w : WellFormed s) where
       let t : Taken s.messages (set_r v p new e n) rest = rw em at t in
       let h : p < length s.nodes = rw em at h in
       rw er (moved-kept w (grant-kept t h new p n (capped_next k) g (named t h).0 (asked t h).to))
-  act-kept t h (denies v p new e n em o er) = rw er (moved-kept w (deny-kept (rw em at t) (rw em at h)))
+  act-kept t h (denies v p new e n em er) = rw er (moved-kept w (deny-kept (rw em at t) (rw em at h)))
   act-kept t h (joins p u n em e er) =
       let h : u < length s.nodes = rw em at h in
-      rw er (moved-kept w (is-answered t h (rw em (own u)) (ap exchanges e) refl (confirmed-fits (w.node u h) n (ap is_out e))))
+      rw er (moved-kept w (is-answered t h (λ v. rw em) (ap exchanges e) refl refl (confirmed-fits (w.node u h) n (ap is_out e))))
   act-kept t h (goes p u n em e er) =
       let h : u < length s.nodes = rw em at h in
-      rw er (moved-kept w (is-answered t h (rw em (own u)) (ap exchanges e) refl (out-fits (w.node u h))))
+      rw er (moved-kept w (is-answered t h (λ v. rw em) (ap exchanges e) refl refl (out-fits (w.node u h))))
   act-kept t h (stays_out p u em e er) =
       let h : u < length s.nodes = rw em at h in
-      rw er (moved-kept w (is-answered t h (rw em (own u)) (ap exchanges e) refl (out-fits (w.node u h))))
+      rw er (moved-kept w (is-answered t h (λ v. rw em) (ap exchanges e) refl refl (out-fits (w.node u h))))
   act-kept t h (stays_in p u em e er) =
       let h : u < length s.nodes = rw em at h in
       let f = w.node u h in
       let has-number = not_left (not (is_in_or_del (status_at s u))) (numbered (node_at s u).rseq) (ap (λ x. not (is_in_or_del x)) e) f.seq in
-      rw er (moved-kept w (is-answered t h (rw em (own u)) (ap exchanges e) refl (status-fits f In (ap is_out e) has-number)))
+      rw er (moved-kept w (is-answered t h (λ v. rw em) (ap exchanges e) refl refl (status-fits f In (ap is_out e) has-number)))
   act-kept {m} t h (takes p u a n em o new er) =
       let a_in : ltb a (length s.nodes) ≡ true = rw em at (message-facts (length s.nodes) m (w.message m t.waits)).kind in
       let h : u < length s.nodes = rw em at h in
-      rw er (moved-kept w (keeps-status t h refl refl (left-set-fits (w.node u h) a n a_in)))
+      rw er (moved-kept w (keeps-status t h refl refl (left-set-fits (w.node u h) a n a_in) (λ v. rw em)))
   act-kept t h (ignores p u a n em o old er) =
       let h : u < length s.nodes = rw em at h in
-      rw er (moved-kept w (keeps-status t h refl refl (w.node u h)))
+      rw er (moved-kept w (keeps-status t h refl refl (w.node u h) (λ v. rw em)))
 
-accepted-kept : {s : State} {call : Call} {r : Result} → WellFormed s → Accepted s call r → WellFormed r.state
+accepted-kept : {s : State} {call : Call} {r : Result} → WellFormed s → Accepted s call r → Preserves s r.state
 accepted-kept w (declares key ec h er) = rw er (declare_kept w h)
 accepted-kept w (creates u ec h er) = rw er (moved-kept w (create-kept w h))
 accepted-kept w (asks u p q ec h er) = rw er (moved-kept w (join_kept w h))
@@ -199,6 +206,9 @@ accepted-kept w (goes_alone u ec h er) = rw er (moved-kept w (leave-alone-kept w
 accepted-kept w (leaves u p q n ec h er) = rw er (moved-kept w (leave-kept w h))
 accepted-kept w (delivers place m rest ec h act) = act-kept w h.taken h.declared act
 
+pub preserves : {s : State} {call : Call} {r : Result} → WellFormed s → Change s call r → Preserves s r.state
+preserves w (refuses n er) = rw er (record { well_formed = w; balanced = λ u. refl })
+preserves w (accepts a) = accepted-kept w a
+
 pub kept : {s : State} {call : Call} {r : Result} → WellFormed s → Change s call r → WellFormed r.state
-kept w (refuses n er) = rw er w
-kept w (accepts a) = accepted-kept w a
+kept w c = (preserves w c).well_formed

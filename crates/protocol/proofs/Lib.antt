@@ -19,6 +19,8 @@ pub mod Notices
 pub mod Orders
 pub mod Single
 pub mod Grants
+pub mod Accounts
+pub mod Drops
 pub mod Steps
 pub mod Theorem
 pub mod EventLaws

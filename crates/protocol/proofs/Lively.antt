@@ -70,10 +70,10 @@ abbrev Lowers : State → Result → Type 0
 Lowers s r = bit (accepted r.said) + load r.state.messages ≤ load s.messages
 
 act_lowers : {s : State} {m : Message} {rest : List Message} {r : Result} → Taken s.messages m rest → Act s m rest r → Lowers s r
-act_lowers t (drops e er) = rw er (gone t)
+act_lowers t (drops p u a n em out er) = rw er (gone t)
 act_lowers t (lets_in v p e n k em g room er) = rw er (replied (rw em at t) (set_l p e v (next_seq k) ∷ set_r_ack p v (next_seq k) ∷ []) (omega arith))
 act_lowers t (lets_go v p new e n k em d g er) = rw er (replied (rw em at t) (set_l p new p n ∷ set_r_ack p v (capped_next k) ∷ []) (omega arith))
-act_lowers t (denies v p new e n em o er) = rw er (replied (rw em at t) (set_r_nak p v ∷ []) (omega arith))
+act_lowers t (denies v p new e n em er) = rw er (replied (rw em at t) (set_r_nak p v ∷ []) (omega arith))
 act_lowers t (joins p u n em e er) = rw er (gone t)
 act_lowers t (goes p u n em e er) = rw er (gone t)
 act_lowers t (stays_out p u em e er) = rw er (gone t)

@@ -1,7 +1,7 @@
--- What leaves a network well formed: one node is set anew, fits and keeps its key, while the
--- messages that then wait fit and no node has more exchanges than its status allows; or one node is
--- declared, and has no exchanges, since no message concerns it. Each is shown once here, for the
--- calls in `Kept`. Assumes nothing.
+-- What leaves a network well formed and loses no request: one node is set anew, fits and keeps its
+-- key, while the messages that then wait fit and each node has as many exchanges more or fewer as
+-- its status asks for; or one node is declared, and has no exchanges, since no message concerns it.
+-- Each is shown once here, for the calls in `Kept`. Assumes nothing.
 use mathlib.Core.Path.{◌≡◌, refl, sym, ap, ◌∙◌}
 use mathlib.Core.Logic.{⊎_elim, ◌≢◌}
 use mathlib.Core.Bool.{true, false, and-false}
@@ -11,7 +11,7 @@ use mathlib.Core.List.Memᴰ.{head as here}
 use mathlib.Core.List.Memᴰ.{not-nil as in-nil}
 use mathlib.Core.List.Memᴰ.{tail as there}
 use mathlib.Core.List.{List, [], ◌∷◌, ◌++◌}
-use Prim.Native.Nat.{ℕ, suc, ◌≤◌, ◌<◌}
+use Prim.Native.Nat.{ℕ, suc, ◌+◌, ◌≤◌, ◌<◌}
 use native.Mathlib.Omega.{arith}
 use native.Mathlib.Decide.{ℕ_discrete}
 use lib.ListN.{length, set, length-append, length-set}
@@ -25,7 +25,7 @@ use Rattle.node.specs.Shape.{declared_of}
 use Rattle.node.proofs.FitLaws.{NodeFits, message-facts, PostsFit, fits_more, message-fits-more}
 use Rattle.protocol.specs.State.{State, queue_limit, node_at, status_at, key_at, is_exchange_of, exchanges}
 use Rattle.protocol.specs.Calls.{declaring}
-use Rattle.protocol.proofs.Nodes.{At, unchanged, set_at, declared-at}
+use Rattle.protocol.proofs.Nodes.{At, unchanged, set_at, declared-at, past}
 use Rattle.protocol.proofs.Fields.{key_of}
 use Rattle.protocol.proofs.Facts.{WellFormed}
 use Rattle.protocol.proofs.Changes.{Declares}
@@ -48,17 +48,33 @@ pub record Moves (s : State) (i : ℕ) (x : Node) (ms : List Message) : Type 0 w
   pub fits : NodeFits (length s.nodes) x
   pub few : length ms ≤ queue_limit
   pub messages : AllFit (length s.nodes) ms
-  pub exchange : count (is_exchange_of i) ms ≤ exchanges x.status
-  pub others : (u : ℕ) → u ≢ i → count (is_exchange_of u) ms ≤ count (is_exchange_of u) s.messages
+  pub exchange : count (is_exchange_of i) ms + exchanges (status_at s i) ≡ count (is_exchange_of i) s.messages + exchanges x.status
+  pub others : (u : ℕ) → u ≢ i → count (is_exchange_of u) ms ≡ count (is_exchange_of u) s.messages
 
-pub moved-kept : {s : State} {i : ℕ} {x : Node} {ms : List Message} → WellFormed s → Moves s i x ms → WellFormed (record { nodes = set s.nodes i x; messages = ms })
+-- ---- what is shown of a call
+-- each node's exchanges come and go with what its status allows
+abbrev pub Balanced : State → State → Type 0
+Balanced s s' = (u : ℕ) → count (is_exchange_of u) s'.messages + exchanges (status_at s u) ≡ count (is_exchange_of u) s.messages + exchanges (status_at s' u)
+
+pub record Preserves (s s' : State) : Type 0 where
+  pub well_formed : WellFormed s'
+  pub balanced : Balanced s s'
+
+-- so where no node had more exchanges than its status allows, none has
+no-more : (s s' : State) → Balanced s s' → (u : ℕ) → count (is_exchange_of u) s.messages ≤ exchanges (status_at s u) → count (is_exchange_of u) s'.messages ≤ exchanges (status_at s' u)
+no-more s s' b u few = omega (arith, b u)
+
+pub moved-kept : {s : State} {i : ℕ} {x : Node} {ms : List Message} → WellFormed s → Moves s i x ms → Preserves s (record { nodes = set s.nodes i x; messages = ms })
 moved-kept {s} {i} {x} {ms} w h = record {
-  few_nodes = rw size w.few_nodes;
-  few_messages = h.few;
-  node = λ u k. rw size (node u (ℕ_discrete u i) (rw size at k));
-  keys = λ u v k j e. w.keys u v (rw size at k) j (sym (key v) ∙ e ∙ key u);
-  exchange = λ u k. exchange u (ℕ_discrete u i) (rw size at k);
-  message = λ m j. rw size (h.messages m j);
+  well_formed = record {
+    few_nodes = rw size w.few_nodes;
+    few_messages = h.few;
+    node = λ u k. rw size (node u (ℕ_discrete u i) (rw size at k));
+    keys = λ u v k j e. w.keys u v (rw size at k) j (sym (key v) ∙ e ∙ key u);
+    exchange = λ u k. no-more s after balanced u (w.exchange u (rw size at k));
+    message = λ m j. rw size (h.messages m j);
+  };
+  balanced = balanced;
 }
   where
     after : State
@@ -77,9 +93,12 @@ moved-kept {s} {i} {x} {ms} w h = record {
     key : (u : ℕ) → key_at after u ≡ key_at s u
     key = unchanged at key_of h.key
 
-    exchange : (u : ℕ) → Dec (u ≡ i) → u < length s.nodes → count (is_exchange_of u) ms ≤ exchanges (status_at after u)
-    exchange u (yes e) k = rw e (omega (arith, h.exchange, ap (λ (n : Node). exchanges n.status) at.self))
-    exchange u (no d) k = omega (arith, h.others u d, w.exchange u k, ap (λ (n : Node). exchanges n.status) (at.others u d))
+    balanced : Balanced s after
+    balanced u = go (ℕ_discrete u i)
+      where
+        go : Dec (u ≡ i) → count (is_exchange_of u) ms + exchanges (status_at s u) ≡ count (is_exchange_of u) s.messages + exchanges (status_at after u)
+        go (yes e) = rw e (omega (arith, h.exchange, ap (λ (n : Node). exchanges n.status) at.self))
+        go (no d) = omega (arith, h.others u d, ap (λ (n : Node). exchanges n.status) (at.others u d))
 
 -- ---- a number that is not declared: no message concerns it
 pub unconcerned : (n u : ℕ) → n ≤ u → (ms : List Message) → AllFit n ms → count (is_exchange_of u) ms ≡ 0
@@ -92,14 +111,17 @@ unconcerned n u le (m ∷ ms) f =
     omega (arith, bit-false not-its, unconcerned n u le ms (λ x i. f x (there i)))
 
 -- ---- a node is declared
-pub declare_kept : {s : State} {key : ℕ} → WellFormed s → Declares s key → WellFormed (record { nodes = s.nodes ++ (declared_of key ∷ []); messages = s.messages })
+pub declare_kept : {s : State} {key : ℕ} → WellFormed s → Declares s key → Preserves s (record { nodes = s.nodes ++ (declared_of key ∷ []); messages = s.messages })
 declare_kept {s} {key} w h = record {
-  few_nodes = rw size h.room;
-  few_messages = w.few_messages;
-  node = λ u k. rw size (node u (rw size at k) (ℕ_discrete u (length s.nodes)));
-  keys = λ u v k j. keys u v (rw size at k) j (ℕ_discrete u (length s.nodes));
-  exchange = λ u k. exchange u (rw size at k) (ℕ_discrete u (length s.nodes));
-  message = λ m i. rw size (message-fits-more more m (w.message m i));
+  well_formed = record {
+    few_nodes = rw size h.room;
+    few_messages = w.few_messages;
+    node = λ u k. rw size (node u (rw size at k) (ℕ_discrete u (length s.nodes)));
+    keys = λ u v k j. keys u v (rw size at k) j (ℕ_discrete u (length s.nodes));
+    exchange = λ u k. exchange u (rw size at k) (ℕ_discrete u (length s.nodes));
+    message = λ m i. rw size (message-fits-more more m (w.message m i));
+  };
+  balanced = λ u. ap (λ k. count (is_exchange_of u) s.messages + k) (sym (status u (ℕ_discrete u (length s.nodes))));
 }
   where
     after : State
@@ -135,3 +157,8 @@ declare_kept {s} {key} w h = record {
     exchange u k (no d) =
         let below : u < length s.nodes = omega arith in
         omega (arith, w.exchange u below, ap (λ (x : Node). exchanges x.status) (old u below))
+
+    -- out before and after
+    status : (u : ℕ) → Dec (u ≡ length s.nodes) → exchanges (status_at after u) ≡ exchanges (status_at s u)
+    status u (yes e) = rw e (ap (λ (x : Node). exchanges x.status) new ∙ sym (ap (λ (x : Node). exchanges x.status) (past s (length s.nodes) (omega arith))))
+    status u (no d) = ap (λ (x : Node). exchanges x.status) ((declared-at s key).others u d)

@@ -67,12 +67,12 @@ module _ (s : State) (f : NumbersFit (node_at s) s.messages) where
     carried y e = rw e at (f.waiting m t.waits)
 
     act-fits : {r : Result} → Act s m rest r → NumbersFit (node_at r.state) r.state.messages
-    act-fits (drops e er) = rw er (stands f (set_at s.nodes k) (f.left _) (f.right _) left_over)
+    act-fits (drops p u a n em out er) = rw er (stands f (set_at s.nodes (rw em at k)) (f.left u) (f.right u) left_over)
     act-fits (lets_in v p e n l em g room er) =
         rw er (stands f (set_at s.nodes (rw em at k)) (f.left p) (carried (set_r v p v e n) em) (posts-two (set_l p e v (next_seq l)) (set_r_ack p v (next_seq l)) (next_fits l room) (next_fits l room)))
     act-fits (lets_go v p new e n l em d g er) =
         rw er (stands f (set_at s.nodes (rw em at k)) (f.left p) (carried (set_r v p new e n) em) (posts-two (set_l p new p n) (set_r_ack p v (capped_next l)) (carried (set_r v p new e n) em) (capped_fits l)))
-    act-fits (denies v p new e n em o er) = rw er (stands f (set_at s.nodes (rw em at k)) (f.left p) (f.right p) (posts-one rest (set_r_nak p v) t.left refl))
+    act-fits (denies v p new e n em er) = rw er (stands f (set_at s.nodes (rw em at k)) (f.left p) (f.right p) (posts-one rest (set_r_nak p v) t.left refl))
     act-fits (joins p u n em e er) = rw er (stands f (set_at s.nodes (rw em at k)) (f.left u) (carried (set_r_ack p u n) em) left_over)
     act-fits (goes p u n em e er) = rw er (stands f (set_at s.nodes (rw em at k)) (f.left u) (f.right u) left_over)
     act-fits (stays_out p u em e er) = rw er (stands f (set_at s.nodes (rw em at k)) (f.left u) (f.right u) left_over)

@@ -21,7 +21,7 @@ use Rattle.protocol.specs.State.{State, well_formed}
 use Rattle.protocol.specs.Calls.{Result, refused, rules_of, effect_of, apply_of}
 use Rattle.protocol.specs.Answer.{accepted}
 use Rattle.protocol.specs.FurtherClaims.{remaining, PostsClaim}
-use Rattle.protocol.specs.History.{History, advanced, run, posted}
+use Rattle.protocol.specs.History.{History, advanced, run}
 use Rattle.protocol.specs.Drain.{after_delivery, places, posts_of_all, drained, drain_of}
 use Rattle.protocol.proofs.Changes.{Act, drops, lets_in, lets_go, denies, joins, goes, stays_out, stays_in, takes, ignores}
 use Rattle.protocol.proofs.Changes.{Accepted, declares, creates, asks, goes_alone, leaves, delivers, Change, refuses, accepts}
@@ -30,10 +30,10 @@ use Rattle.protocol.proofs.Refusals.{accepted-said}
 
 -- ---- two messages at most
 act_posts : {s : State} {m : Message} {rest : List Message} {r : Result} → Act s m rest r → length r.posts ≤ 2
-act_posts (drops e er) = rw er (omega arith)
+act_posts (drops p u a n em out er) = rw er (omega arith)
 act_posts (lets_in v p e n k em g room er) = rw er (omega arith)
 act_posts (lets_go v p new e n k em d g er) = rw er (omega arith)
-act_posts (denies v p new e n em o er) = rw er (omega arith)
+act_posts (denies v p new e n em er) = rw er (omega arith)
 act_posts (joins p u n em e er) = rw er (omega arith)
 act_posts (goes p u n em e er) = rw er (omega arith)
 act_posts (stays_out p u em e er) = rw er (omega arith)
@@ -91,10 +91,14 @@ posts_at_the_end s call = go (first (rules_of s call)) (accepted_case s call)
     go (Some r) a = remaining-refused s call r
 
 -- ---- deliveries one after the other
-pub posts-of-all : (s : State) (places : List ℕ) → length (posts_of_all s places) ≡ posted s (map Deliver places)
-posts-of-all s [] = refl
-posts-of-all s (place ∷ places) =
-    omega (arith, length-append (apply_of s (Deliver place)).posts (posts_of_all (after_delivery s place) places), posts-of-all (after_delivery s place) places)
+pub posts-of-all : (h : History) (places : List ℕ) → h.posts + length (posts_of_all h.state places) ≡ (run h (map Deliver places)).posts
+posts-of-all h [] = omega arith
+posts-of-all h (place ∷ places) =
+    omega (
+      arith,
+      length-append (apply_of h.state (Deliver place)).posts (posts_of_all (after_delivery h.state place) places),
+      posts-of-all (advanced h (Deliver place)) places,
+    )
 
 pub few_posts_of_all : (s : State) (places : List ℕ) → length (posts_of_all s places) ≤ 2 * length places
 few_posts_of_all s [] = omega arith
@@ -105,8 +109,3 @@ few_posts_of_all s (place ∷ places) =
       few-posts s (Deliver place),
       few_posts_of_all (after_delivery s place) places,
     )
-
--- ---- more calls post so many more
-pub posted_append : (h : History) (calls more : List Call) → posted h.state (calls ++ more) ≡ posted h.state calls + posted (run h calls).state more
-posted_append h [] more = omega arith
-posted_append h (call ∷ calls) more = omega (arith, posted_append (advanced h call) calls more)

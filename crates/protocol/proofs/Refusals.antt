@@ -28,10 +28,10 @@ use Rattle.protocol.proofs.Changes.{Accepted, declares, creates, asks, goes_alon
 
 -- ---- whatever a node does with a message, its delivery is not refused
 pub act_accepted : {s : State} {m : Message} {rest : List Message} {r : Result} → Act s m rest r → T (accepted r.said)
-act_accepted (drops e er) = rw er tt
+act_accepted (drops p u a n em out er) = rw er tt
 act_accepted (lets_in v p e n k em g room er) = rw er tt
 act_accepted (lets_go v p new e n k em d g er) = rw er tt
-act_accepted (denies v p new e n em o er) = rw er tt
+act_accepted (denies v p new e n em er) = rw er tt
 act_accepted (joins p u n em e er) = rw er tt
 act_accepted (goes p u n em e er) = rw er tt
 act_accepted (stays_out p u em e er) = rw er tt

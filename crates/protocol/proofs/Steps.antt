@@ -6,7 +6,7 @@ use mathlib.Core.Path.{◌≡◌, refl, ap}
 use mathlib.Core.Logic.{◌⊎◌, inl, inr, ⊎_elim, ◌↔◌, ◌≢◌}
 use mathlib.Core.Bool.{Bool, true, false}
 use mathlib.Core.List.{List, [], ◌∷◌, ◌++◌}
-use Prim.Native.Nat.{ℕ, ◌≤◌, ◌<◌}
+use Prim.Native.Nat.{ℕ, ◌+◌, ◌*◌, ◌≤◌, ◌<◌}
 use native.Mathlib.Omega.{arith}
 use native.Mathlib.Decide.{dec_lt}
 use lib.ListN.{length, set}
@@ -30,6 +30,7 @@ use Rattle.protocol.specs.State.{State, node_at, status_at, is_exchange_of, exch
 use Rattle.protocol.specs.Calls.{Result, message_at, peer_at}
 use Rattle.protocol.specs.Events.{stays, grant_of, event_of, put, told_after}
 use Rattle.protocol.specs.History.{History, joins_after}
+use Rattle.protocol.specs.Claim.{requests}
 use Rattle.protocol.proofs.Nodes.{listed, declared-at, past, set_at}
 use Rattle.protocol.proofs.Waiting.{Taken, Limited}
 use Rattle.protocol.proofs.Fields.{status_of}
@@ -51,6 +52,9 @@ pub record Good (h : History) : Type 0 where
   pub well_formed : WellFormed h.state
   pub numbers : NumbersFit (node_at h.state) h.state.messages
   pub invariant : Invariant (node_at h.state) h.state.messages h.told h.joins
+  -- R10.17: no request is lost
+  pub answered : (u : ℕ) → count (is_exchange_of u) h.state.messages ≡ exchanges (status_at h.state u)
+  pub accounts : h.posts ≡ 3 * h.grants + 2 * h.denials + requests h.state.messages
 
 -- ---- a state as the invariant sees it
 limited : {s : State} → WellFormed s → Limited (node_at s) s.messages
@@ -123,7 +127,7 @@ module _ (h : History) (g : Good h) where
 
   act-holds : (place : ℕ) {m : Message} {rest : List Message} {r : Result} → message_at h.state place ≡ m → Taken h.state.messages m rest
       → m.to < length h.state.nodes → Act h.state m rest r → After h (Deliver place) r
-  act-holds place at t k (drops out er) = rw er (drops-kept g.invariant (set_at h.state.nodes k) (limited g.well_formed) refl out t)
+  act-holds place at t k (drops p u a n em out er) = rw er (drops-kept g.invariant (set_at h.state.nodes (rw em at k)) out (rw em at t))
   act-holds place at t k (lets_in v p e n l em gr room er) =
       let c = granting-of e v (next_seq l) (next_seq l) (rw em at t) (rw em at k) gr in
       rw (er, granted-event place at em (g.invariant.exchanges.joiners v (is-joiner c)))
@@ -132,7 +136,7 @@ module _ (h : History) (g : Good h) where
       let c = granting-of new p n (capped_next l) (rw em at t) (rw em at k) gr in
       rw (er, granted-event place at em (g.invariant.exchanges.leavers v (is-leaver c d)))
       (lets-go-kept c d (number v (rw em at t) (is-leaver c d)) (put_other h.told v false) (put-own h.told v false))
-  act-holds place at t k (denies v p new e n em out er) = rw er (denies-kept g.invariant (set_at h.state.nodes (rw em at k)) v p new e n (rw em at t))
+  act-holds place at t k (denies v p new e n em er) = rw er (denies-kept g.invariant (set_at h.state.nodes (rw em at k)) v p new e n (rw em at t))
   act-holds place at t k (joins p u n em ins er) = rw er (joins-kept (limited g.well_formed) g.invariant n (rw em at t) ins (set_at h.state.nodes (rw em at k)))
   act-holds place at t k (goes p u n em del er) = rw er (goes_kept (limited g.well_formed) g.invariant n (rw em at t) del (set_at h.state.nodes (rw em at k)))
   act-holds place at t k (stays_out p u em ins er) = rw er (stays-out-kept (limited g.well_formed) g.invariant (rw em at t) ins (set_at h.state.nodes (rw em at k)))

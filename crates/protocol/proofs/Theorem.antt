@@ -28,14 +28,16 @@ use Rattle.protocol.specs.declared.Call.{Call}
 use Rattle.protocol.specs.State.{State, node_at, status_at, left_at, right_at, is_ack_to, is_notice_to, notice_waits, is_inserted, inserted}
 use Rattle.protocol.specs.History.{History, start, advanced, run, history}
 use Rattle.protocol.specs.Claim.{Inserted, Sound, RingClaim}
+use Rattle.protocol.specs.FurtherClaims.{NoneLost}
 use Rattle.protocol.proofs.Nodes.{declared_unless_out}
 use Rattle.protocol.proofs.Facts.{WellFormed, tested}
 use Rattle.protocol.proofs.Cases.{change}
 use Rattle.protocol.proofs.Numbers.{numbers-tested, numbers-kept}
-use Rattle.protocol.proofs.Kept.{kept}
+use Rattle.protocol.proofs.Kept.{preserves}
 use Rattle.protocol.proofs.Lively.{lively}
 use Rattle.protocol.proofs.Invariant.{Member, Keeps, stored, coming, LeftLink, Round, Invariant}
 use Rattle.protocol.proofs.Frames.{settled_in, settled_out, ins_not_del, member_not_out}
+use Rattle.protocol.proofs.Accounts.{accounted, settled}
 use Rattle.protocol.proofs.Steps.{Good, call-holds}
 
 -- ---- from the empty network, over any list
@@ -65,12 +67,21 @@ good_start = record {
       lefts = λ v u R t. impossible t;
     };
   };
+  answered = λ u. refl;
+  accounts = refl;
 }
 
 pub good-next : (h : History) → Good h → (call : Call) → Good (advanced h call)
 good-next h g call =
     let c = change h.state call in
-    record { well_formed = kept g.well_formed c; numbers = numbers-kept h.state g.numbers c; invariant = call-holds h g c }
+    let p = preserves g.well_formed c in
+    record {
+      well_formed = p.well_formed;
+      numbers = numbers-kept h.state g.numbers c;
+      invariant = call-holds h g c;
+      answered = λ u. omega (arith, p.balanced u, g.answered u);
+      accounts = omega (arith, g.accounts, accounted c);
+    }
 
 good-run : (calls : List Call) (h : History) → Good h → Good (run h calls)
 good-run [] h g = g
@@ -143,7 +154,13 @@ sound h g =
         left = λ u p _ quiet t right. left-holds g.well_formed g.invariant u p quiet (is_true _ t) right;
       };
       lively = lively s g.well_formed;
+      settled = settled s g.answered;
+      accounts = g.accounts;
     }
+
+-- R10.17: no request is lost
+pub none_lost : NoneLost
+none_lost calls = (good calls).answered
 
 -- Demand 3: for every list of calls, of any arguments, refused ones included
 pub ring : RingClaim

@@ -34,6 +34,21 @@ is_granted LeftSet = false
 is_granted LeftOld = false
 is_granted Dropped = false
 
+-- R10.16: a SetR was denied
+abbrev pub is_denied : Outcome → Bool
+is_denied Created = false
+is_denied Waiting = false
+is_denied LeftAlone = false
+is_denied Granted = false
+is_denied Denied = true
+is_denied Joined = false
+is_denied Gone = false
+is_denied JoinDenied = false
+is_denied LeaveDenied = false
+is_denied LeftSet = false
+is_denied LeftOld = false
+is_denied Dropped = false
+
 -- R10.2: a node left alone
 abbrev pub is_left_alone : Outcome → Bool
 is_left_alone Created = false

@@ -1,12 +1,14 @@
 -- The claim over lists (docs/RULES.md, section 10): what holds after any list of calls from the
 -- empty network. It is stated here in full, and cites no proof. Definitions only.
-use Rattle.std.specs.Prelude.{ℕ, ◌+◌, ◌*◌, ◌<◌, ◌≤◌, ◌≡◌, false, not, List, [], ◌∷◌, length, T, Some}
+use Rattle.std.specs.Prelude.{ℕ, ◌+◌, ◌*◌, ◌<◌, ◌≤◌, ◌≡◌, ◌≢◌, false, not, List, [], ◌∷◌, length, T, Some}
 use Rattle.predicates.specs.Tests.{bit, count}
 use Rattle.links.specs.Walk.{Circuit, Predecessor}
+use Rattle.parts.specs.declared.Status.{Status}
+use Rattle.parts.specs.declared.Status.TheVariants.{Ins, Del}
 use Rattle.parts.specs.declared.Message.{Message}
 use Rattle.protocol.specs.declared.Call.{Call}
 use Rattle.protocol.specs.declared.Call.TheVariants.{Deliver}
-use Rattle.protocol.specs.State.{State, key_at, left_at, right_at, notice_waits, well_formed, numbers_fit, inserted}
+use Rattle.protocol.specs.State.{State, status_at, key_at, left_at, right_at, notice_waits, well_formed, numbers_fit, inserted}
 use Rattle.parts.specs.Tests.{is_request}
 use Rattle.protocol.specs.Calls.{apply_of}
 use Rattle.protocol.specs.History.{History, history}
@@ -27,9 +29,13 @@ abbrev pub delivered : State → List ℕ → ℕ
 delivered s [] = 0
 delivered s (place ∷ places) = bit (accepted (apply_of s (Deliver place)).said) + delivered (apply_of s (Deliver place)).state places
 
+-- R10.9, R10.16: how many SetR are among messages
+abbrev pub requests : List Message → ℕ
+requests ms = count (λ m. is_request m.kind) ms
+
 -- R10.9: three for each SetR and one for each other message
 abbrev pub load : List Message → ℕ
-load ms = 3 * count (λ m. is_request m.kind) ms + count (λ m. not (is_request m.kind)) ms
+load ms = 3 * requests ms + count (λ m. not (is_request m.kind)) ms
 
 -- ---- R10.13: what holds of every well-formed network, ring or not
 pub record Lively (s : State) : Type 0 where
@@ -59,6 +65,10 @@ pub record Ringed (s : State) : Type 0 where
   -- R10.7: and where no SetL to a node waits, its left link names that one
   pub left : (u p : ℕ) → Inserted s u → notice_waits s u ≡ false → Inserted s p → right_at s p ≡ Some u → left_at s u ≡ Some p
 
+-- R10.15: a node of this status waits for no answer
+abbrev pub Settled : Status → Type 0
+Settled s = (s ≢ Ins) × (s ≢ Del)
+
 -- ---- R10.1: what holds after a list of calls
 pub record Sound (h : History) : Type 0 where
   -- R10.10: the network is well formed, and its numbers are such as the fields can hold
@@ -68,6 +78,11 @@ pub record Sound (h : History) : Type 0 where
   pub told : (u : ℕ) → h.told u ≡ inserted h.state u
   pub ring : Ringed h.state
   pub lively : Lively h.state
+  -- R10.15: where nothing waits, no node is ins or del
+  pub settled : h.state.messages ≡ [] → (u : ℕ) → Settled (status_at h.state u)
+  -- R10.16: three messages were posted for each grant, two for each denial, and one for each SetR
+  -- that waits
+  pub accounts : h.posts ≡ 3 * h.grants + 2 * h.denials + requests h.state.messages
 
 -- R10.1: for every list of calls, of any arguments, refused ones included
 abbrev pub RingClaim : Type 0

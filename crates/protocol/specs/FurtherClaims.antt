@@ -1,20 +1,24 @@
--- What the ring means for the questions, what a drain is, and what is posted: claims beside the one
--- over lists, each stated in full and citing no proof. Definitions only.
-use Rattle.std.specs.Prelude.{ℕ, ◌<◌, ◌≤◌, ◌≡◌, ◌≢◌, cond, List, [], ◌++◌, map, length, T, Some}
+-- What the ring means for the questions, what a drain is, what is posted, who waits for an answer,
+-- and what is dropped: claims beside the one over lists, each stated in full and citing no proof.
+-- Definitions only.
+use Rattle.std.specs.Prelude.{ℕ, ◌+◌, ◌<◌, ◌≤◌, ◌≡◌, ◌≢◌, ◌↔◌, Bool, ◌&&◌, cond, List, [], ◌++◌, map, length, ltb, T, Some}
+use Rattle.predicates.specs.Tests.{count}
 use Rattle.refusal.specs.Code.{plain}
 use Rattle.refusal.specs.Rules.{Coded, done, no}
 use Rattle.serial.specs.Serial.{in_range}
 use Rattle.interval.specs.Interval.{within}
 use Rattle.links.specs.Walk.{after}
 use Rattle.parts.specs.declared.Message.{Message}
+use Rattle.parts.specs.Tests.{is_notice, is_out}
+use Rattle.node.specs.declared.Outcome.TheVariants.{Dropped}
 use Rattle.protocol.specs.declared.Call.{Call}
 use Rattle.protocol.specs.declared.Call.TheVariants.{Order, Deliver}
 use Rattle.protocol.specs.declared.Reply.{Reply}
-use Rattle.protocol.specs.declared.Reply.TheVariants.{Owner}
-use Rattle.protocol.specs.State.{State, key_at, right_at, well_formed}
-use Rattle.protocol.specs.Calls.{without, apply_of}
+use Rattle.protocol.specs.declared.Reply.TheVariants.{Stepped, Owner}
+use Rattle.protocol.specs.State.{State, status_at, key_at, right_at, is_exchange_of, exchanges, well_formed}
+use Rattle.protocol.specs.Calls.{message_at, without, apply_of}
 use Rattle.protocol.specs.Answer.{accepted}
-use Rattle.protocol.specs.History.{history, posted}
+use Rattle.protocol.specs.History.{history}
 use Rattle.protocol.specs.Claim.{Inserted, delivered}
 use Rattle.protocol.specs.Questions.{owner_of}
 use Rattle.protocol.specs.Drain.{places, deliver_all, drained, drain_of}
@@ -65,7 +69,7 @@ DrainClaim = (s : State) → T (well_formed s) → (budget : ℕ) → Drains s b
 -- its end, and posts what they post
 pub record IsCalls (calls : List Call) (budget : ℕ) : Type 0 where
   pub state : (drain_of (history calls).state budget).state ≡ (history (calls ++ map Deliver (places budget (history calls).state))).state
-  pub posts : length (drain_of (history calls).state budget).posts ≡ posted (history calls).state (map Deliver (places budget (history calls).state))
+  pub posts : (history calls).posts + length (drain_of (history calls).state budget).posts ≡ (history (calls ++ map Deliver (places budget (history calls).state))).posts
 
 -- R10.1: after any list of calls, with any budget
 abbrev pub DrainIsCalls : Type 0
@@ -81,3 +85,17 @@ remaining s (Deliver place) said = cond (accepted said) (without place s.message
 -- does
 abbrev pub PostsClaim : Type 0
 PostsClaim = (s : State) (call : Call) → (apply_of s call).state.messages ≡ remaining s call (apply_of s call).said ++ (apply_of s call).posts
+
+-- ---- who waits for an answer, and what is dropped
+-- R10.17, after any list of calls: each node has just as many exchanges as its status allows, one if
+-- it is ins or del, and else none. So no request is lost
+abbrev pub NoneLost : Type 0
+NoneLost = (calls : List Call) (u : ℕ) → count (is_exchange_of u) (history calls).state.messages ≡ exchanges (status_at (history calls).state u)
+
+-- R10.18: a SetL at this place, to a node that is out
+abbrev pub notice_to_out : State → ℕ → Bool
+notice_to_out s place = ltb place (length s.messages) && (is_notice (message_at s place).kind && is_out (status_at s (message_at s place).to))
+
+-- R10.18, of every network, well formed or not: that is what a delivery is answered `dropped` for
+abbrev pub DropsClaim : Type 0
+DropsClaim = (s : State) (place : ℕ) → ((apply_of s (Deliver place)).said ≡ done (Stepped Dropped)) ↔ T (well_formed s && notice_to_out s place)

@@ -1,7 +1,9 @@
 -- What comes of a list of calls from the empty network, refused calls included (R10.1); and beside
--- it which nodes are inserted as the calls and their answers tell it (R10.2): the events of the
--- calls, one after the other. Definitions only.
+-- it what the calls and their answers tell: which nodes are inserted (R10.2), by the events of the
+-- calls, one after the other; and how much was posted, granted and denied (R10.16). Definitions
+-- only.
 use Rattle.std.specs.Prelude.{ℕ, ◌+◌, Bool, true, false, cond, List, [], ◌∷◌, length}
+use Rattle.predicates.specs.Tests.{bit}
 use Rattle.refusal.specs.Rules.{Coded}
 use Rattle.protocol.specs.declared.Call.{Call}
 use Rattle.protocol.specs.declared.Order.TheVariants.{Declare, Create, Join, Leave}
@@ -9,19 +11,23 @@ use Rattle.protocol.specs.declared.Call.TheVariants.{Order, Deliver}
 use Rattle.protocol.specs.declared.Reply.{Reply}
 use Rattle.protocol.specs.State.{State, empty}
 use Rattle.protocol.specs.Calls.{apply_of}
-use Rattle.protocol.specs.Answer.{accepted}
+use Rattle.protocol.specs.Answer.{accepted, is_granted, is_denied, says}
 use Rattle.protocol.specs.Events.{Event, event_of, put, told_after}
 
--- ---- R10.1, R10.2: the list so far, by the network it leads to, who is told inserted, and of whom
--- the last join or leave that was not refused was a join
+-- ---- R10.1, R10.2, R10.16: the list so far, by the network it leads to, who is told inserted, of
+-- whom the last join or leave that was not refused was a join, how many messages were posted, and
+-- how many answers were `granted` and how many `denied`
 pub record History : Type 0 where
   pub state : State
   pub told : ℕ → Bool
   pub joins : ℕ → Bool
+  pub posts : ℕ
+  pub grants : ℕ
+  pub denials : ℕ
 
--- R10.1, R10.2: the empty network, with nobody told inserted
+-- R10.1, R10.2, R10.16: the empty network, with nobody told inserted and nothing posted
 abbrev pub start : History
-start = record { state = empty; told = λ u. false; joins = λ u. false }
+start = record { state = empty; told = λ u. false; joins = λ u. false; posts = 0; grants = 0; denials = 0 }
 
 -- R10.2: what a node asked for last, where it was not refused
 abbrev pub joins_after : History → Call → Coded Reply → ℕ → Bool
@@ -41,6 +47,9 @@ advanced h call = record {
   state = (apply_of h.state call).state;
   told = told_after h.told (happened h call);
   joins = joins_after h call (apply_of h.state call).said;
+  posts = h.posts + length (apply_of h.state call).posts;
+  grants = h.grants + bit (says is_granted (apply_of h.state call).said);
+  denials = h.denials + bit (says is_denied (apply_of h.state call).said);
 }
 
 -- R10.1: the calls one after the other
@@ -51,8 +60,3 @@ run h (call ∷ calls) = run (advanced h call) calls
 -- R10.1: from the empty network
 abbrev pub history : List Call → History
 history calls = run start calls
-
--- R10.11: how many messages calls post, one after the other
-abbrev pub posted : State → List Call → ℕ
-posted s [] = 0
-posted s (call ∷ calls) = length (apply_of s call).posts + posted (apply_of s call).state calls

@@ -1,5 +1,6 @@
-//! What nodes do where messages come late, overtake each other, or find their node changed. No
-//! script has an answer dropped: none waits for a node that is out or in (R2.7).
+//! What nodes do where messages come late, overtake each other, or find their node changed. Only
+//! notices to a node that is out are dropped in a script (R10.18): a request is answered, and no
+//! answer waits for a node that is out or in (R2.7).
 pub(crate) const NOTICES: [&[u8]; 5] = [
     // R5.6, R5.7, R5.12: three nodes come in on the left of node 0, one behind the other. Each
     // notice is newer, so that node 0 asks the last of them.
@@ -62,10 +63,10 @@ pub(crate) const NOTICES: [&[u8]; 5] = [
       JN\x01\x00\x00DL\x00DL\x00",
 ];
 
-pub(crate) const DROPS: [&[u8]; 3] = [
-    // R5.13: node 0 leaves alone before the request of node 1 comes. Node 1 goes on waiting for an
-    // answer.
-    b"a request to a node that is out is dropped\n\
+pub(crate) const OUT: [&[u8]; 4] = [
+    // R5.9, R5.11, R5.13, R10.15: node 0 leaves alone before the request of node 1 comes. Node 1 is
+    // told no, and can join as soon as it has heard it and a ring is there.
+    b"a request to a node that is out is denied\n\
       BC\x00\x00\x10\x00\
       BC\x00\x00\x20\x00\
       CR\x00\
@@ -73,10 +74,14 @@ pub(crate) const DROPS: [&[u8]; 3] = [
       LV\x00\
       DL\x00\
       JN\x01\x00\x00\
-      CR\x00",
-    // R5.13, R4.1: node 2 asks node 1 to let it go, but that is gone when the request comes. Node 2
-    // stays inserted.
-    b"a request to leave finds its node gone and is dropped\n\
+      DL\x00\
+      CR\x00\
+      JN\x01\x00\x00\
+      RD\xff\xff",
+    // R5.11, R5.13, R4.1: node 2 asks node 1 to let it go, but that is gone when the request comes.
+    // Node 2 is inserted throughout, is in again when it hears the answer, and leaves as soon as it
+    // has heard of its new left neighbour.
+    b"a request to leave finds its node gone and is denied\n\
       BC\x00\x00\x10\x00\
       BC\x00\x00\x20\x00\
       BC\x00\x00\x30\x00\
@@ -87,9 +92,10 @@ pub(crate) const DROPS: [&[u8]; 3] = [
       DL\x00\
       OC\x02\x00\x00\x25\x00\
       RD\xff\xff\
-      LV\x02",
-    // R5.13: node 0 leaves alone before it hears that node 1 came and went, and can be created
-    // again once both notices are dropped.
+      LV\x02RD\xff\xff\
+      OC\x00\x00\x00\x25\x00",
+    // R5.13, R10.18: node 0 leaves alone before it hears that node 1 came and went, and can be
+    // created again once both notices are dropped.
     b"notices to a node that is out are dropped\n\
       BC\x00\x00\x10\x00\
       BC\x00\x00\x20\x00\
@@ -100,6 +106,21 @@ pub(crate) const DROPS: [&[u8]; 3] = [
       DL\x01\
       DL\x00\
       CR\x00",
+    // R5.12, R5.13, R10.18: of two notices to node 0 the newer comes first, so that node 0 asks its
+    // left neighbour to let it go, and is gone when the older one comes.
+    b"a notice to a node that has left is dropped\n\
+      BC\x00\x00\x10\x00\
+      BC\x00\x00\x20\x00\
+      BC\x00\x00\x30\x00\
+      BC\x00\x00\x40\x00\
+      CR\x00\
+      JN\x01\x00\x00RD\xff\xff\
+      JN\x02\x01\x00DL\x00DL\x01\
+      JN\x03\x02\x00DL\x01DL\x02\
+      DL\x01\
+      LV\x00DL\x01DL\x02\
+      DL\x00\
+      RD\xff\xff",
 ];
 
 pub(crate) const DENIALS: [&[u8]; 3] = [

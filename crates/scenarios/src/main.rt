@@ -88,7 +88,7 @@ fn main(rt: HostRuntime) -> io::Result<()> {
     state::full_queues(&mut run)?;
     run.scenes(&state::DELIVERIES_AND_QUESTIONS)?;
     run.scenes(&actions::NOTICES)?;
-    run.scenes(&actions::DROPS)?;
+    run.scenes(&actions::OUT)?;
     run.scenes(&actions::DENIALS)?;
     drains::cases(&mut run)?;
     run.scenes(&sheets::ALL)?;

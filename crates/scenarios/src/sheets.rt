@@ -1,6 +1,6 @@
 //! The sheets of the folder `examples`, one record to a line. There each record has a comment that
 //! says what it does, and beside each sheet stands its printout, which is the same.
-pub(crate) const ALL: [&[u8]; 5] = [
+pub(crate) const ALL: [&[u8]; 6] = [
     // R5.5, R5.9, R5.11: node 0 asks to leave before it has heard of its left neighbour, and so
     // asks and denies itself.
     b"paper\n\
@@ -95,6 +95,29 @@ pub(crate) const ALL: [&[u8]; 5] = [
       JN\x00\x02\x01\
       RD\xff\xff\
       OC\x01\x00\x00\x15\x00",
+    // R5.9, R5.11, R5.13, R10.15, refusals 22, 23 and 30: node 2 asks to join beside node 1, which has
+    // gone out, is denied, and joins at node 0.
+    b"gone-neighbour\n\
+      BC\x00\x00\x10\x00\
+      BC\x00\x00\x20\x00\
+      BC\x00\x00\x30\x00\
+      CR\x00\
+      JN\x01\x00\x00\
+      RD\xff\xff\
+      LV\x01\
+      DL\x00\
+      DL\x01\
+      JN\x02\x01\x00\
+      JN\x02\x00\x00\
+      CR\x01\
+      DL\x01\
+      OC\x02\x00\x00\x35\x00\
+      DL\x01\
+      JN\x02\x00\x00\
+      DL\x01\
+      OC\x02\x00\x00\x35\x00\
+      RD\xff\xff\
+      OC\x00\x00\x00\x05\x00",
     // R5.5, R5.9, R5.11, R5.12, R6.9, R7.1, refusals 23 and 29: one of four requests is granted,
     // and messages are delivered out of order.
     b"four-at-once\n\

@@ -119,7 +119,7 @@ pub(crate) const ORDERS: [&[u8]; 9] = [
       JN\x01\x00\x00",
 ];
 
-const FULL_QUEUES: [&[u8]; 2] = [
+const FULL_QUEUES: [&[u8]; 3] = [
     // R6.7, R6.8, R6.9, R5.3, refusal 28: nodes 22 and 23 ask to join, and 64 messages wait: a join
     // of node 24, a leave of node 0 and the delivery of the request of 22 are refused. Then node 1
     // leaves, the last that had joined; 64 wait again, and node 0, now alone, leaves too.
@@ -136,6 +136,19 @@ const FULL_QUEUES: [&[u8]; 2] = [
       LV\x00\
       RD\xff\xff\
       JN\x18\x00\x01",
+    // R5.13, R6.10, refusal 28: node 22 asks node 31, which is out, and node 23 asks node 0, which
+    // would grant it; 64 messages wait. The request to node 0 is refused, and the one to node 31
+    // delivered: it is denied, and with its answer 64 wait again.
+    b"no 28: with 64 waiting, a request to a node that is out is denied\n\
+      JN\x16\x1f\x15\
+      JN\x17\x00\x01\
+      RD\x00\x00\
+      DL\x3f\
+      DL\x3e\
+      RD\x00\x00\
+      DL\x3e\
+      DL\x3f\
+      DL\x3e",
     // R6.1, R6.3, R6.6, R6.7, R6.8: 64 messages wait, among them a notice for node 20, which is
     // out. Each record meets several refusals at once, as the join of node 20 between 1 and 0 meets
     // 25, 24 and 28, and the join of node 0x19 between the same two 24 and 28; the first is told.
