@@ -1,6 +1,7 @@
 -- R1.4, R5.1, R5.2, R5.4, R5.5, R5.9, R5.10, R5.11, R5.13, R5.14, R6.4, R6.12: rows of our own
--- beside the marked ones, of what a single node's step does and refuses where no script can show it,
--- since a network is well formed and hands in its own nodes and keys. `proofs/Single.antt` proves the whole table. Definitions only.
+-- beside the marked ones, of what a single node's step does and refuses. Most of them no script can
+-- show, since a network is well formed and hands in its own nodes and keys. `proofs/Single.antt`
+-- proves the whole table. Definitions only.
 use Rattle.std.specs.Prelude.{List, [], ◌∷◌, ℕ, Some, None}
 use Rattle.refusal.specs.Code.{plain}
 use Rattle.sequence.specs.Sequence.{Number}
@@ -62,8 +63,8 @@ single =
     ∷ (receive_of 0 (linked Del) (set_r_ack 1 0 9) is quiet (linked Out) Gone)
     ∷ (receive_of 0 (linked Ins) (set_r_nak 1 0) is quiet (linked Out) JoinDenied)
     ∷ (receive_of 0 (linked Del) (set_r_nak 1 0) is quiet (linked In) LeaveDenied)
-    -- R5.14: and at a node that is in; R5.13: every kind at a node that is out, of SetR a leave's
-    -- too, all of which it would grant if it were in
+    -- R5.14: and at a node that is in; R5.13: each kind at a node that is out, and two SetR, of a
+    -- join and of a leave, which it would grant if it were in
     ∷ (receive_of 0 (linked In) (set_r_ack 1 0 9) is quiet (linked In) Dropped)
     ∷ (receive_of 0 (linked In) (set_r_nak 1 0) is quiet (linked In) Dropped)
     ∷ (receive_of 0 (linked Out) (set_r_ack 1 0 9) is quiet (linked Out) Dropped)

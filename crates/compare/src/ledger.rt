@@ -1,4 +1,6 @@
-//! What came of all scripts: how often each mark had each answer, and whether any script differed.
+//! What came of all scripts: how often each mark had each answer; after how many records the model
+//! found its accounts out of balance, or a node with another exchange than its status asks for; and
+//! whether any script differed.
 use arrayvec::ArrayVec;
 use model::answer::{Answer, Outcome, Refusal};
 use model::network::Network;
@@ -119,7 +121,7 @@ pub(crate) struct Ledger {
     with_both_faults: usize,
     denied_by_out: usize,
     unbalanced: usize,
-    with_lost_request: usize,
+    mismatched: usize,
     differing: usize,
     first_difference: Option<Difference>,
 }
@@ -164,8 +166,8 @@ impl Ledger {
         if !network.accounts_balance() {
             self.unbalanced = self.unbalanced.saturating_add(1);
         }
-        if !network.loses_no_request() {
-            self.with_lost_request = self.with_lost_request.saturating_add(1);
+        if !network.has_exchanges_by_status() {
+            self.mismatched = self.mismatched.saturating_add(1);
         }
     }
 
@@ -200,7 +202,7 @@ impl fmt::Display for Ledger {
             with_both_faults,
             denied_by_out,
             unbalanced,
-            with_lost_request,
+            mismatched,
             differing,
             ..
         } = self;
@@ -211,8 +213,14 @@ impl fmt::Display for Ledger {
         writeln!(f, "{passed_over} places passed over in drains")?;
         writeln!(f, "{with_both_faults} joins told 25 that met 24 too")?;
         writeln!(f, "{denied_by_out} requests denied by a node that is out")?;
-        writeln!(f, "{unbalanced} records that left the accounts unbalanced")?;
-        writeln!(f, "{with_lost_request} records that lost a request")?;
+        writeln!(
+            f,
+            "{unbalanced} records after which the accounts do not balance"
+        )?;
+        writeln!(
+            f,
+            "{mismatched} records after which exchanges and statuses differ"
+        )?;
         writeln!(f, "{differing} scripts differed")?;
         if let Some(Difference { script, byte }) = self.first_difference {
             writeln!(f, "the first is {script} at byte {byte}")?;

@@ -1,6 +1,7 @@
 //! Runs scripts made by chance through the ring program and through a second model of it, and holds
 //! the two printouts against each other, byte for byte. It writes how often each mark had each
-//! answer, and last whether any script differed.
+//! answer, what the model found in its network after each record, and last whether any script
+//! differed.
 #![tactic(auto)]
 
 mod chance;

@@ -164,9 +164,9 @@ script_is_calls script k =
     record {
       network = network;
       posts = posts;
+      sound = ring (script_calls script k);
       accounts = omega (arith, posts, (ring (script_calls script k)).accounts, ap (λ (s : State). requests s.messages) network);
       settled = rw network (ring (script_calls script k)).settled;
-      sound = ring (script_calls script k);
       printed = (told script k).1;
       never_6 = none-says 6 refl refl script
           (λ j. rw (sofar script j).0 (never-six (history (script_calls script j)).state (ring (script_calls script j)).well_formed)) k;

@@ -1,7 +1,7 @@
 -- R10.11, what a script does to the network, as a list of calls: after each of its records the
 -- network is the one that these calls make, so all that is claimed of any list of calls holds of
 -- it, and the messages posted are theirs; and what its printout says. Definitions only.
-use Rattle.std.specs.Prelude.{ℕ, zero, suc, ◌+◌, ◌*◌, ◌≡◌, Ok, Err}
+use Rattle.std.specs.Prelude.{ℕ, zero, suc, ◌≡◌, Ok, Err}
 use mathlib.Core.List.{List, [], ◌∷◌, ◌++◌, map, Memᴰ}
 use Rattle.refusal.specs.Code.{plain}
 use Rattle.refusal.specs.Rules.{Coded, no}
@@ -11,7 +11,7 @@ use Rattle.protocol.specs.declared.Call.TheVariants.{Order, Deliver}
 use Rattle.protocol.specs.declared.Reply.{Reply}
 use Rattle.protocol.specs.State.{State, status_at}
 use Rattle.protocol.specs.History.{history}
-use Rattle.protocol.specs.Claim.{requests, Settled, Sound}
+use Rattle.protocol.specs.Claim.{posted_for, Settled, Sound}
 use Rattle.protocol.specs.Questions.{owner_of}
 use Rattle.protocol.specs.Drain.{places}
 use Rattle.script.specs.declared.Record.{Record}
@@ -62,13 +62,11 @@ pub record Made (script : List ℕ) (k : ℕ) : Type 0 where
   pub network : (after script k).state ≡ (history (script_calls script k)).state
   -- R10.11: T counts what these calls post
   pub posts : (after script k).posted ≡ (history (script_calls script k)).posts
-  -- R10.16: which is three for each of them that granted, two for each that denied, and one for each
-  -- SetR that waits
-  pub accounts : (after script k).posted ≡ 3 * (history (script_calls script k)).grants + 2 * (history (script_calls script k)).denials + requests (after script k).state.messages
-  -- R10.15: where nothing waits, no node is ins or del
-  pub settled : (after script k).state.messages ≡ [] → (u : ℕ) → Settled (status_at (after script k).state u)
   -- the ring, as of any list of calls
   pub sound : Sound (history (script_calls script k))
+  -- what these three say of T and of the network itself, R10.16 and R10.15
+  pub accounts : (after script k).posted ≡ posted_for (history (script_calls script k)).grants (history (script_calls script k)).denials (after script k).state.messages
+  pub settled : (after script k).state.messages ≡ [] → (u : ℕ) → Settled (status_at (after script k).state u)
   -- R9.7: the printout so far is the heading and a line for each answer
   pub printed : (after script k).text ≡ heading ++ lines 1 (answers_of script k)
   -- R10.11: none of them is 6, since every network of a script is well formed

@@ -32,7 +32,7 @@ use Rattle.network.specs.Arrays.{live, well_formed, held, empty}
 use Rattle.network.proofs.Lengths.{Lengths}
 use Rattle.network.proofs.ArrayLaws.{live-held, held_well_formed, held-live}
 use Rattle.engine.specs.Outcomes.{Applied, refused, in_arrays, apply_of, drain_of, run}
-use Rattle.engine.specs.Accounts.{sum_of, posts, grants, denials, AddsUpClaim}
+use Rattle.engine.specs.Accounts.{sum_of, posts_in, grants_in, denials_in, ArraysClaim}
 
 -- ---- 6: a network that is not well formed comes back as it is
 pub malformed : (n : Network) (call : Call) → well_formed n ≡ false → apply_of n call ≡ refused n (plain 6)
@@ -106,13 +106,13 @@ summed f g adds (call ∷ calls) h w =
     let kept : lists_are_well_formed (apply_to_lists h.state call).state ≡ true = is_true _ ((steady h.state (holds w)).kept call) in
     rw (apply_held h.state call w) (omega (arith, adds h call, summed f g adds calls (advanced h call) kept))
 
-pub adds_up : AddsUpClaim
+pub after_calls : ArraysClaim
 unfolding lists_are_well_formed
-adds_up calls =
+after_calls calls =
     let sound = ring calls in
-    let sent = summed posts (λ h. h.posts) (λ h call. refl) calls start refl in
-    let granted = summed grants (λ h. h.grants) (λ h call. refl) calls start refl in
-    let denied = summed denials (λ h. h.denials) (λ h call. refl) calls start refl in
+    let sent = summed posts_in (λ h. h.posts) (λ h call. refl) calls start refl in
+    let granted = summed grants_in (λ h. h.grants) (λ h call. refl) calls start refl in
+    let denied = summed denials_in (λ h. h.denials) (λ h call. refl) calls start refl in
     let waiting = ap (λ (n : Network). n.waiting) (run-empty calls) in
     record {
       settled = λ none u. subst (λ s. Settled (status_at s u)) (sym (run-live calls)) (sound.settled (nothing-left (history calls).state.messages (sym waiting ∙ none)) u);

@@ -1,4 +1,4 @@
-//! The network of paper 01, written a second time and otherwise: two lists. What an order or a
+//! The network of papers 01 and 02, written a second time and otherwise: two lists. What an order or a
 //! delivery comes to is found first, with the network untouched; then the step is taken, if it is
 //! not refused.
 use crate::answer::{Answer, Outcome, Refusal};
@@ -102,12 +102,14 @@ impl Network {
         self.nodes.iter().all(|node| node.status == Status::Out)
     }
 
-    /// As many requests and answers are under way as nodes wait for an answer. So no node does where
-    /// nothing is under way.
-    pub fn loses_no_request(&self) -> bool {
-        let waits = |node: &&Node| matches!(node.status, Status::Ins | Status::Del);
-        let is_exchange = |message: &&Message| message.kind != Kind::SetL;
-        self.nodes.iter().filter(waits).count() == self.messages.iter().filter(is_exchange).count()
+    /// Each node that waits for an answer has its request or an answer to it under way, one and no
+    /// more, and no other node has one.
+    pub fn has_exchanges_by_status(&self) -> bool {
+        (0..self.declared_nodes()).all(|node| {
+            let is_its = |message: &&Message| message.is_exchange_of(node);
+            let waits = matches!(self.node(node).status, Status::Ins | Status::Del);
+            self.messages.iter().filter(is_its).count() == usize::from(waits)
+        })
     }
 
     /// Three messages were posted for each grant, two for each denial and one for each request that

@@ -1,6 +1,6 @@
-//! What a message does to the node that it reaches, after 004 Fig. 1 and paper 01. The outcome
-//! comes first, from the node and the message; the node afterwards and the messages posted follow
-//! from it.
+//! What a message does to the node that it reaches, after 004 Fig. 1 and papers 01 and 02. The
+//! outcome comes first, from the node and the message; the node afterwards and the messages posted
+//! follow from it.
 use crate::answer::Outcome;
 
 #[derive(Clone, Copy, Default, Eq, PartialEq)]
@@ -49,6 +49,15 @@ pub struct Message {
 impl Message {
     fn is_join(&self) -> bool {
         self.link == self.sender
+    }
+
+    // A request of this node, or an answer to it.
+    pub(crate) fn is_exchange_of(&self, node: u8) -> bool {
+        match self.kind {
+            Kind::SetR => self.sender == node,
+            Kind::SetRAck | Kind::SetRNak => self.addressee == node,
+            Kind::SetL => false,
+        }
     }
 
     // An answer to the sender of this request.

@@ -3,13 +3,13 @@
 use Rattle.std.specs.Prelude.{ℕ, zero, suc, ◌+◌, ◌*◌, ◌^◌, Bool, true, false, ◌&&◌, List, [], ◌∷◌}
 use Rattle.std.specs.List.{list_any, list_all}
 
--- R4.2, R10.9: what passes a test counts one
+-- R4.2, R10.9, R10.16: what passes a test counts one
 abbrev pub bit : Bool → ℕ
 bit true = 1
 bit false = 0
 
--- R2.7, R10.5, R10.6, R10.9: how many of l pass the test; not std's `count_by`, since the laws of
--- the ring go by these two cases
+-- R2.7, R10.5, R10.6, R10.9, R10.16, R10.17: how many of l pass the test; not std's `count_by`,
+-- since the laws of the ring go by these two cases
 abbrev pub count : {A : Type 0} → (A → Bool) → List A → ℕ
 count test [] = 0
 count test (x ∷ l) = bit (test x) + count test l

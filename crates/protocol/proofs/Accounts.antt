@@ -1,7 +1,7 @@
--- What the calls post and what waits. A call that is not refused posts one request, or delivers one
--- and posts two messages for a grant and one for a denial, or posts nothing; so the accounts balance
--- call by call. And from call to call each node has just the exchanges that its status allows, so
--- that where nothing waits every node is in or out. Assumes nothing.
+-- What a call posts, by its answer and the requests that wait. One that is not refused posts one
+-- request; or delivers one, and posts two messages for a grant and one for a denial; or posts
+-- nothing. And where each node has just the exchanges that its status allows, and nothing waits,
+-- every node is out or in. Assumes nothing.
 use mathlib.Core.Path.{◌≡◌, refl}
 use mathlib.Core.List.{List, [], ◌∷◌, ◌++◌}
 use Prim.Native.Nat.{ℕ, ◌+◌, ◌*◌}

@@ -1,6 +1,6 @@
--- The invariant holds after the delivery of a request that is denied, and of a notice to a node that
--- is out: no node changes, and of what waited nothing goes that the invariant speaks of. Assumes
--- nothing.
+-- The invariant holds after the delivery of a request that is denied, and of a notice to a node
+-- that is out: no node changes, and of what waited nothing goes that the invariant speaks of.
+-- Assumes nothing.
 use mathlib.Core.Path.{◌≡◌, refl, sym, ap, ◌∙◌}
 use mathlib.Core.Logic.{⊎_elim, ◌≢◌}
 use mathlib.Core.Bool.{Bool, false}

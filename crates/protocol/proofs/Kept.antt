@@ -1,7 +1,7 @@
 -- Each call keeps a network well formed, and loses no request. An order finds a node with no
--- exchanges, which it may give one; a delivered request goes and an answer to the same node comes; a
--- delivered answer goes, and its node has no exchanges left. Each case of `Changes` shows its part,
--- and `Moves` the rest. Assumes nothing.
+-- exchanges, which it may give one; a delivered request goes and an answer to the same node comes;
+-- a delivered answer goes, and its node has no exchanges left. Each case of `Changes` shows its
+-- part, and `Moves` the rest. Assumes nothing.
 use mathlib.Core.Path.{◌≡◌, refl, sym, ap, ◌∙◌}
 use mathlib.Core.Logic.{◌≢◌}
 use mathlib.Core.Bool.{true, false, not, or-false}

@@ -6,7 +6,7 @@ use mathlib.Core.Path.{◌≡◌, refl, ap}
 use mathlib.Core.Logic.{◌⊎◌, inl, inr, ⊎_elim, ◌↔◌, ◌≢◌}
 use mathlib.Core.Bool.{Bool, true, false}
 use mathlib.Core.List.{List, [], ◌∷◌, ◌++◌}
-use Prim.Native.Nat.{ℕ, ◌+◌, ◌*◌, ◌≤◌, ◌<◌}
+use Prim.Native.Nat.{ℕ, ◌≤◌, ◌<◌}
 use native.Mathlib.Omega.{arith}
 use native.Mathlib.Decide.{dec_lt}
 use lib.ListN.{length, set}
@@ -30,7 +30,7 @@ use Rattle.protocol.specs.State.{State, node_at, status_at, is_exchange_of, exch
 use Rattle.protocol.specs.Calls.{Result, message_at, peer_at}
 use Rattle.protocol.specs.Events.{stays, grant_of, event_of, put, told_after}
 use Rattle.protocol.specs.History.{History, joins_after}
-use Rattle.protocol.specs.Claim.{requests}
+use Rattle.protocol.specs.Claim.{posted_for}
 use Rattle.protocol.proofs.Nodes.{listed, declared-at, past, set_at}
 use Rattle.protocol.proofs.Waiting.{Taken, Limited}
 use Rattle.protocol.proofs.Fields.{status_of}
@@ -54,7 +54,7 @@ pub record Good (h : History) : Type 0 where
   pub invariant : Invariant (node_at h.state) h.state.messages h.told h.joins
   -- R10.17: no request is lost
   pub answered : (u : ℕ) → count (is_exchange_of u) h.state.messages ≡ exchanges (status_at h.state u)
-  pub accounts : h.posts ≡ 3 * h.grants + 2 * h.denials + requests h.state.messages
+  pub accounts : h.posts ≡ posted_for h.grants h.denials h.state.messages
 
 -- ---- a state as the invariant sees it
 limited : {s : State} → WellFormed s → Limited (node_at s) s.messages

@@ -14,12 +14,12 @@ abbrev pub answered : Result Reply Refusal → Coded Reply
 answered (Ok r) = done r
 answered (Err r) = no (reason r)
 
--- ---- R10.2: tests of what is said
+-- ---- R10.2, R10.16: tests of what is said
 abbrev pub accepted : Coded Reply → Bool
 accepted (done r) = true
 accepted (no r) = false
 
--- R10.2: a SetR was granted
+-- R10.2, R10.16: a SetR was granted
 abbrev pub is_granted : Outcome → Bool
 is_granted Created = false
 is_granted Waiting = false

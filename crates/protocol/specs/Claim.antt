@@ -65,6 +65,11 @@ pub record Ringed (s : State) : Type 0 where
   -- R10.7: and where no SetL to a node waits, its left link names that one
   pub left : (u p : ℕ) → Inserted s u → notice_waits s u ≡ false → Inserted s p → right_at s p ≡ Some u → left_at s u ≡ Some p
 
+-- R10.16: three messages for each grant, two for each denial and one for each SetR among those that
+-- wait
+abbrev pub posted_for : ℕ → ℕ → List Message → ℕ
+posted_for grants denials waiting = 3 * grants + 2 * denials + requests waiting
+
 -- R10.15: a node of this status waits for no answer
 abbrev pub Settled : Status → Type 0
 Settled s = (s ≢ Ins) × (s ≢ Del)
@@ -80,9 +85,8 @@ pub record Sound (h : History) : Type 0 where
   pub lively : Lively h.state
   -- R10.15: where nothing waits, no node is ins or del
   pub settled : h.state.messages ≡ [] → (u : ℕ) → Settled (status_at h.state u)
-  -- R10.16: three messages were posted for each grant, two for each denial, and one for each SetR
-  -- that waits
-  pub accounts : h.posts ≡ 3 * h.grants + 2 * h.denials + requests h.state.messages
+  -- R10.16: so many messages were posted as the grants, the denials and the waiting SetR account for
+  pub accounts : h.posts ≡ posted_for h.grants h.denials h.state.messages
 
 -- R10.1: for every list of calls, of any arguments, refused ones included
 abbrev pub RingClaim : Type 0

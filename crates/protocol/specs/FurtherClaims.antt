@@ -87,8 +87,8 @@ abbrev pub PostsClaim : Type 0
 PostsClaim = (s : State) (call : Call) → (apply_of s call).state.messages ≡ remaining s call (apply_of s call).said ++ (apply_of s call).posts
 
 -- ---- who waits for an answer, and what is dropped
--- R10.17, after any list of calls: each node has just as many exchanges as its status allows, one if
--- it is ins or del, and else none. So no request is lost
+-- R10.17, after any list of calls: each node has just as many exchanges as its status allows, one
+-- if it is ins or del, and else none. So no request is lost
 abbrev pub NoneLost : Type 0
 NoneLost = (calls : List Call) (u : ℕ) → count (is_exchange_of u) (history calls).state.messages ≡ exchanges (status_at (history calls).state u)
 

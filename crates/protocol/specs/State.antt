@@ -56,7 +56,7 @@ is_ack_to u m = is_ack m.kind && eqb m.to u
 abbrev pub is_notice_to : ℕ → Message → Bool
 is_notice_to u m = is_notice m.kind && eqb m.to u
 
--- R2.7: an exchange of a node is a SetR from it or an answer to it
+-- R2.7, R10.17: an exchange of a node is a SetR from it or an answer to it
 abbrev pub is_exchange_of : ℕ → Message → Bool
 is_exchange_of u m = (is_request m.kind && eqb m.sender u) || (is_answer m.kind && eqb m.to u)
 
@@ -73,7 +73,7 @@ notice_waits s u = any (is_notice_to u) s.messages
 abbrev pub key_is_new : State → ℕ → Bool
 key_is_new s u = every_below u (λ v. not (eqb (key_at s v) (key_at s u)))
 
--- R2.7: how many exchanges a node of this status may have
+-- R2.7, R10.17: how many exchanges a node of this status may have
 abbrev pub exchanges : Status → ℕ
 exchanges Out = 0
 exchanges Ins = 1

@@ -95,7 +95,7 @@ pub(crate) const ALL: [&[u8]; 6] = [
       JN\x00\x02\x01\
       RD\xff\xff\
       OC\x01\x00\x00\x15\x00",
-    // R5.9, R5.11, R5.13, R10.15, refusals 22, 23 and 30: node 2 asks to join beside node 1, which has
+    // R5.9, R5.11, R5.13, R10.15, refusals 23 and 30: node 2 asks to join beside node 1, which has
     // gone out, is denied, and joins at node 0.
     b"gone-neighbour\n\
       BC\x00\x00\x10\x00\
@@ -109,7 +109,6 @@ pub(crate) const ALL: [&[u8]; 6] = [
       DL\x01\
       JN\x02\x01\x00\
       JN\x02\x00\x00\
-      CR\x01\
       DL\x01\
       OC\x02\x00\x00\x35\x00\
       DL\x01\
