@@ -1,6 +1,6 @@
-//! The rules of the ring program of papers 01 and 02 as plain Rust, for the programs that the proved
-//! one is measured against: one network changed in place, and no test of well-formedness. It shares
-//! no line with the proved program. How a line is written is left to each program.
+//! The rules of the ring program of papers 01 and 02 as plain Rust, for the programs that the
+//! proved one is measured against: one network changed in place, and no test of well-formedness. It
+//! shares no line with the proved program. How a line is written is left to each program.
 use std::io::{self, Read};
 
 const CAPACITY: usize = 32;

@@ -1,16 +1,14 @@
 -- A record leaves the network well formed, on the arrays as on the lists, and posts no more than a
 -- few messages; a refused one leaves it as it was. Assumes nothing.
-use mathlib.Core.Path.{◌≡◌, refl}
-use mathlib.Core.Logic.{⊎_elim}
+use mathlib.Core.Path.{◌≡◌}
 use mathlib.Core.Bool.{not}
 use mathlib.Core.List.{List, [], ◌∷◌}
 use Rattle.std.specs.Prelude.{Option, None, Some}
-use Prim.Native.Nat.{ℕ, ◌+◌, ◌≤◌}
+use Prim.Native.Nat.{ℕ, ◌≤◌}
 use native.Mathlib.Omega.{arith}
 use lib.ListN.{length}
 use lib.Dec.{T}
-use Rattle.predicates.specs.Tests.{count}
-use Rattle.predicates.proofs.TestLaws.{decided, is_true}
+use Rattle.predicates.proofs.TestLaws.{is_true}
 use Rattle.refusal.specs.Code.{Reason}
 use Rattle.refusal.specs.Rules.{no, ◌when◌, first, unless_refused}
 use Rattle.serial.specs.Serial.{coded}
@@ -22,7 +20,7 @@ use Rattle.protocol.specs.State.{State, well_formed}
 use Rattle.protocol.specs.Calls.{refused, apply_of}
 use Rattle.protocol.specs.Drain.{places, deliver_all, drain_of}
 use Rattle.protocol.proofs.Facts.{well-formed}
-use Rattle.protocol.proofs.Lively.{steady}
+use Rattle.protocol.proofs.Lively.{count-all, steady}
 use Rattle.protocol.proofs.Drains.{drain_is, drains}
 use Rattle.protocol.proofs.Posted.{few-posts, few_posts_of_all, refused-same as call-refused-same, drain_refused_same}
 use Rattle.script.specs.declared.Record.{Record}
@@ -50,10 +48,6 @@ module _ (s : State) (w : T (well_formed s)) where
       go (Some r) = w
 
 -- ---- how many messages a record posts
-counted-apart : (ms : List Message) → count (λ m. is_request m.kind) ms + count (λ m. not (is_request m.kind)) ms ≡ length ms
-counted-apart [] = refl
-counted-apart (m ∷ ms) = ⊎_elim (λ t. rw t (omega (arith, counted-apart ms))) (λ f. rw f (omega (arith, counted-apart ms))) (decided (is_request m.kind))
-
 module _ (s : State) (w : T (well_formed s)) where
   -- each delivery of a drain lowers the load, which is no more than three for each of 64 messages
   drain-posts : (budget : ℕ) → length (drain_of s budget).posts ≤ 384
@@ -64,7 +58,7 @@ module _ (s : State) (w : T (well_formed s)) where
         few_posts_of_all s (places budget s),
         (drains s w budget).none_refused,
         (steady s w).lively.bound (places budget s),
-        counted-apart s.messages,
+        count-all (λ (m : Message). is_request m.kind) s.messages,
         (well-formed s (is_true _ w)).few_messages,
       ))
 

@@ -25,7 +25,7 @@ use Rattle.protocol.specs.declared.Call.TheVariants.{Order, Deliver}
 use Rattle.protocol.specs.declared.Reply.{Reply}
 use Rattle.protocol.specs.State.{State, well_formed}
 use Rattle.protocol.specs.Calls.{Result, refused, apply_of}
-use Rattle.protocol.specs.History.{History, start, run, history}
+use Rattle.protocol.specs.History.{History, start, history}
 use Rattle.protocol.specs.Claim.{requests}
 use Rattle.protocol.specs.Drain.{places, drain_of}
 use Rattle.protocol.proofs.Drains.{run_append, drain_is_calls}
@@ -41,14 +41,7 @@ use Rattle.course.proofs.NeverLaws.{never-six, never_31}
 use Rattle.course.specs.Run.{Progress, advanced, after}
 use Rattle.course.specs.Claim.{calls_of, calls_read, script_calls, answer_to, answers_of, lines, ScriptClaim}
 
--- ---- more calls after a list of them
-state_append : (calls more : List Call) → (history (calls ++ more)).state ≡ (run (history calls) more).state
-state_append calls more = ap (λ (h : History). h.state) (run_append start calls more)
-
-posts_append : (calls more : List Call) → (history (calls ++ more)).posts ≡ (run (history calls) more).posts
-posts_append calls more = ap (λ (h : History). h.posts) (run_append start calls more)
-
--- what a record leads to is what its calls lead to
+-- ---- what a record leads to is what its calls lead to
 pub record Follows (calls more : List Call) (p : Result) : Type 0 where
   pub state : p.state ≡ (history (calls ++ more)).state
   pub posts : (history calls).posts + length p.posts ≡ (history (calls ++ more)).posts
@@ -64,7 +57,9 @@ module _ (calls : List Call) where
   }
 
   one-call : (call : Call) → Follows calls (call ∷ []) (apply_of here call)
-  one-call call = record { state = sym (state_append calls (call ∷ [])); posts = sym (posts_append calls (call ∷ [])) }
+  one-call call =
+      let more = run_append start calls (call ∷ []) in
+      record { state = sym (ap (λ (h : History). h.state) more); posts = sym (ap (λ (h : History). h.posts) more) }
 
   well-formed : T (well_formed here)
   well-formed = (ring calls).well_formed

@@ -13,7 +13,6 @@ use lib.ListN.{length}
 use Rattle.predicates.proofs.TestLaws.{holds, is_true, decided}
 use Rattle.refusal.specs.Code.{Reason, plain}
 use Rattle.refusal.specs.Rules.{Coded, done, no}
-use Rattle.parts.specs.declared.Message.{Message}
 use Rattle.protocol.specs.declared.Call.{Call}
 use Rattle.protocol.specs.declared.Call.TheVariants.{Deliver}
 use Rattle.protocol.specs.declared.Reply.{Reply}
@@ -24,7 +23,7 @@ use Rattle.protocol.specs.History.{History, start, advanced, run as run_lists, h
 use Rattle.protocol.specs.Claim.{requests, Settled}
 use Rattle.protocol.specs.Drain.{places, drained as drained_lists, drain_of as drain_lists}
 use Rattle.protocol.proofs.Lively.{steady}
-use Rattle.protocol.proofs.Drains.{deliveries_are_calls}
+use Rattle.protocol.proofs.Drains.{nothing_left, deliveries_are_calls}
 use Rattle.protocol.proofs.Theorem.{ring}
 use Rattle.protocol.proofs.Posted.{refused-same as lists-refused-same, drain_refused_same as drain-lists-refused-same}
 use Rattle.network.specs.declared.Network.{Network}
@@ -115,13 +114,9 @@ after_calls calls =
     let denied = summed denials_in (λ h. h.denials) (λ h call. refl) calls start refl in
     let waiting = ap (λ (n : Network). n.waiting) (run-empty calls) in
     record {
-      settled = λ none u. subst (λ s. Settled (status_at s u)) (sym (run-live calls)) (sound.settled (nothing-left (history calls).state.messages (sym waiting ∙ none)) u);
+      settled = λ none u. subst (λ s. Settled (status_at s u)) (sym (run-live calls)) (sound.settled (nothing_left (history calls).state.messages (sym waiting ∙ none)) u);
       accounts = omega (arith, sound.accounts, sent, granted, denied, ap (λ (s : State). requests s.messages) (run-live calls));
     }
-  where
-    nothing-left : (l : List Message) → length l ≡ 0 → l ≡ []
-    nothing-left [] e = refl
-    nothing-left (m ∷ l) e = absurd (omega arith)
 
 -- ---- a drain counts as the deliveries it makes
 drain_held : (s : State) (budget : ℕ) → lists_are_well_formed s ≡ true → drain_of (held s) budget ≡ in_arrays (drained_lists s (places budget s))

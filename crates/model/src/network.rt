@@ -1,6 +1,6 @@
-//! The network of papers 01 and 02, written a second time and otherwise: two lists. What an order or a
-//! delivery comes to is found first, with the network untouched; then the step is taken, if it is
-//! not refused.
+//! The network of papers 01 and 02, written a second time and otherwise: two lists. What an order
+//! or a delivery comes to is found first, with the network untouched; then the step is taken, if it
+//! is not refused.
 use crate::answer::{Answer, Outcome, Refusal};
 use crate::rules::{Kind, Message, Node, Status};
 use arrayvec::ArrayVec;

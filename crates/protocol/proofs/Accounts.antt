@@ -4,7 +4,7 @@
 -- every node is out or in. Assumes nothing.
 use mathlib.Core.Path.{◌≡◌, refl}
 use mathlib.Core.List.{List, [], ◌∷◌, ◌++◌}
-use Prim.Native.Nat.{ℕ, ◌+◌, ◌*◌}
+use Prim.Native.Nat.{ℕ, ◌+◌}
 use native.Mathlib.Omega.{arith}
 use lib.ListN.{length}
 use Rattle.predicates.specs.Tests.{bit, count}
@@ -19,7 +19,7 @@ use Rattle.protocol.specs.declared.Call.{Call}
 use Rattle.protocol.specs.State.{State, node_at, status_at, is_exchange_of, exchanges}
 use Rattle.protocol.specs.Calls.{Result}
 use Rattle.protocol.specs.Answer.{is_granted, is_denied, says}
-use Rattle.protocol.specs.Claim.{requests, Settled}
+use Rattle.protocol.specs.Claim.{requests, posted_for, Settled}
 use Rattle.protocol.proofs.Waiting.{Taken}
 use Rattle.protocol.proofs.Frames.{settled_in, settled_out}
 use Rattle.protocol.proofs.Changes.{Act, drops, lets_in, lets_go, denies, joins, goes, stays_out, stays_in, takes, ignores}
@@ -27,7 +27,7 @@ use Rattle.protocol.proofs.Changes.{declares, creates, asks, goes_alone, leaves,
 
 -- ---- the accounts of one call
 abbrev pub Accounted : State → Result → Type 0
-Accounted s r = length r.posts + requests s.messages ≡ 3 * bit (says is_granted r.said) + 2 * bit (says is_denied r.said) + requests r.state.messages
+Accounted s r = length r.posts + requests s.messages ≡ posted_for (bit (says is_granted r.said)) (bit (says is_denied r.said)) r.state.messages
 
 more-requests : (ms posts : List Message) → requests (ms ++ posts) ≡ requests ms + requests posts
 more-requests ms posts = count-append (λ m. is_request m.kind) ms posts
@@ -69,4 +69,4 @@ settled-status In e = settled_in
 settled-status Del e = absurd (omega arith)
 
 pub settled : (s : State) → ((u : ℕ) → count (is_exchange_of u) s.messages ≡ exchanges (status_at s u)) → s.messages ≡ [] → (u : ℕ) → Settled (status_at s u)
-settled s answered none u = settled-status (status_at s u) (rw none at (answered u))
+settled s none_lost quiet u = settled-status (status_at s u) (rw quiet at (none_lost u))

@@ -88,7 +88,7 @@ pub drain_is : (s : State) (budget : ℕ) → T (well_formed s) → drain_of s b
 unfolding drain_of
 drain_is s budget w = rw (is_true (well_formed s) w)
 
-nothing_left : {A : Type 0} (l : List A) → length l ≡ 0 → l ≡ []
+pub nothing_left : {A : Type 0} (l : List A) → length l ≡ 0 → l ≡ []
 nothing_left [] e = refl
 nothing_left (x ∷ l) e = absurd (omega arith)
 

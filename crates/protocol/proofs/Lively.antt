@@ -142,7 +142,7 @@ few-requests {s} w = omega (
 )
 
 -- ---- so of a full queue some message is not a request
-count-all : {A : Type 0} (test : A → Bool) (l : List A) → count test l + count (λ x. not (test x)) l ≡ length l
+pub count-all : {A : Type 0} (test : A → Bool) (l : List A) → count test l + count (λ x. not (test x)) l ≡ length l
 count-all test [] = refl
 count-all test (x ∷ l) = omega (arith, count-all test l, one (test x))
   where

@@ -53,7 +53,7 @@ pub record Good (h : History) : Type 0 where
   pub numbers : NumbersFit (node_at h.state) h.state.messages
   pub invariant : Invariant (node_at h.state) h.state.messages h.told h.joins
   -- R10.17: no request is lost
-  pub answered : (u : ℕ) → count (is_exchange_of u) h.state.messages ≡ exchanges (status_at h.state u)
+  pub none_lost : (u : ℕ) → count (is_exchange_of u) h.state.messages ≡ exchanges (status_at h.state u)
   pub accounts : h.posts ≡ posted_for h.grants h.denials h.state.messages
 
 -- ---- a state as the invariant sees it

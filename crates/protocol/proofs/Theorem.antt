@@ -67,7 +67,7 @@ good_start = record {
       lefts = λ v u R t. impossible t;
     };
   };
-  answered = λ u. refl;
+  none_lost = λ u. refl;
   accounts = refl;
 }
 
@@ -79,7 +79,7 @@ good-next h g call =
       well_formed = p.well_formed;
       numbers = numbers-kept h.state g.numbers c;
       invariant = call-holds h g c;
-      answered = λ u. omega (arith, p.balanced u, g.answered u);
+      none_lost = λ u. omega (arith, p.balanced u, g.none_lost u);
       accounts = omega (arith, g.accounts, accounted c);
     }
 
@@ -154,13 +154,13 @@ sound h g =
         left = λ u p _ quiet t right. left-holds g.well_formed g.invariant u p quiet (is_true _ t) right;
       };
       lively = lively s g.well_formed;
-      settled = settled s g.answered;
+      settled = settled s g.none_lost;
       accounts = g.accounts;
     }
 
 -- R10.17: no request is lost
 pub none_lost : NoneLost
-none_lost calls = (good calls).answered
+none_lost calls = (good calls).none_lost
 
 -- Demand 3: for every list of calls, of any arguments, refused ones included
 pub ring : RingClaim

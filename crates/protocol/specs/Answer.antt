@@ -5,7 +5,7 @@ use Rattle.refusal.specs.declared.Refusal.{Refusal}
 use Rattle.refusal.specs.Code.{reason}
 use Rattle.refusal.specs.Rules.{Coded, done, no}
 use Rattle.node.specs.declared.Outcome.{Outcome}
-use Rattle.node.specs.declared.Outcome.TheVariants.{Created, Waiting, LeftAlone, Granted, Denied, Joined, Gone, JoinDenied, LeaveDenied, LeftSet, LeftOld, Dropped}
+use Rattle.node.specs.declared.Outcome.TheVariants.{LeftAlone, Granted, Denied}
 use Rattle.protocol.specs.declared.Reply.{Reply}
 use Rattle.protocol.specs.declared.Reply.TheVariants.{Declared, Stepped, Owner, Ran, Inserted}
 
@@ -21,48 +21,18 @@ accepted (no r) = false
 
 -- R10.2, R10.16: a SetR was granted
 abbrev pub is_granted : Outcome → Bool
-is_granted Created = false
-is_granted Waiting = false
-is_granted LeftAlone = false
 is_granted Granted = true
-is_granted Denied = false
-is_granted Joined = false
-is_granted Gone = false
-is_granted JoinDenied = false
-is_granted LeaveDenied = false
-is_granted LeftSet = false
-is_granted LeftOld = false
-is_granted Dropped = false
+is_granted o = false
 
 -- R10.16: a SetR was denied
 abbrev pub is_denied : Outcome → Bool
-is_denied Created = false
-is_denied Waiting = false
-is_denied LeftAlone = false
-is_denied Granted = false
 is_denied Denied = true
-is_denied Joined = false
-is_denied Gone = false
-is_denied JoinDenied = false
-is_denied LeaveDenied = false
-is_denied LeftSet = false
-is_denied LeftOld = false
-is_denied Dropped = false
+is_denied o = false
 
 -- R10.2: a node left alone
 abbrev pub is_left_alone : Outcome → Bool
-is_left_alone Created = false
-is_left_alone Waiting = false
 is_left_alone LeftAlone = true
-is_left_alone Granted = false
-is_left_alone Denied = false
-is_left_alone Joined = false
-is_left_alone Gone = false
-is_left_alone JoinDenied = false
-is_left_alone LeaveDenied = false
-is_left_alone LeftSet = false
-is_left_alone LeftOld = false
-is_left_alone Dropped = false
+is_left_alone o = false
 
 abbrev pub says : (Outcome → Bool) → Coded Reply → Bool
 says test (done (Declared number key)) = false

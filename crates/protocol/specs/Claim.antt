@@ -85,7 +85,7 @@ pub record Sound (h : History) : Type 0 where
   pub lively : Lively h.state
   -- R10.15: where nothing waits, no node is ins or del
   pub settled : h.state.messages ≡ [] → (u : ℕ) → Settled (status_at h.state u)
-  -- R10.16: so many messages were posted as the grants, the denials and the waiting SetR account for
+  -- R10.16: so many messages were posted as grants, denials and waiting SetR account for
   pub accounts : h.posts ≡ posted_for h.grants h.denials h.state.messages
 
 -- R10.1: for every list of calls, of any arguments, refused ones included

@@ -79,8 +79,8 @@ pub(crate) const OUT: [&[u8]; 4] = [
       JN\x01\x00\x00\
       RD\xff\xff",
     // R5.11, R5.13, R4.1: node 2 asks node 1 to let it go, but that is gone when the request comes.
-    // Node 2 stays inserted, and is in again when it hears the answer. It asks once more, by then its
-    // new left neighbour, node 0, and is let go.
+    // Node 2 stays inserted, and is in again when it hears the answer. It asks once more, by then
+    // its new left neighbour, node 0, and is let go.
     b"a request to leave finds its node gone and is denied\n\
       BC\x00\x00\x10\x00\
       BC\x00\x00\x20\x00\

@@ -122,8 +122,8 @@ pub(crate) const ORDERS: [&[u8]; 9] = [
 const FULL_QUEUES: [&[u8]; 3] = [
     // R6.7, R6.8, R6.9, R5.3, refusal 28: nodes 22 and 23 ask to join, and 64 messages wait: a join
     // of node 24, a leave of node 0 and the delivery of the request of 22 are refused. Then node 1
-    // leaves, the last that had joined; 64 wait again, and node 0, now alone, leaves too. So it denies
-    // both requests in the drain, which delivers their answers as well, 66 messages in all.
+    // leaves, the last that had joined; 64 wait again, and node 0, now alone, leaves too. So it
+    // denies both requests in the drain, which delivers their answers as well, 66 messages in all.
     b"no 28: with 64 waiting, a join, a leave, a delivery; a lone node leaves\n\
       JN\x16\x00\x01\
       JN\x17\x00\x01\
