@@ -268,7 +268,7 @@ impl Network {
 
     fn drain(&mut self, budget: u16) -> u16 {
         let mut made = 0;
-        while made < budget && !self.messages.is_empty() {
+        while (budget == 0 || made < budget) && !self.messages.is_empty() {
             let mut place = 0;
             while self.deliver(place).is_err() {
                 place += 1;
@@ -305,6 +305,7 @@ fn fields(mark: &[u8]) -> Option<usize> {
         b"JN" => Some(3),
         b"OC" | b"ON" => Some(5),
         b"RD" => Some(2),
+        b"PK" => Some(0),
         _ => None,
     }
 }
@@ -340,6 +341,10 @@ fn record(network: &mut Network, mark: &[u8], f: &[u8], ordinal: u32, lines: &mu
         b"RD" => {
             let made = network.drain(u16::from_le_bytes([f[0], f[1]]));
             lines.ran(ordinal, made, network.messages.len())?;
+            return Ok(Ok(()));
+        }
+        b"PK" => {
+            lines.ran(ordinal, 0, network.messages.len())?;
             return Ok(Ok(()));
         }
         b"CR" => network.create(f[0]),

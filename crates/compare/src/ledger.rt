@@ -1,6 +1,6 @@
 //! What came of all scripts: how often each mark had each answer; after how many records the model
-//! found its accounts out of balance, or a node with another exchange than its status asks for; and
-//! whether any script differed.
+//! found its accounts out of balance, or a node with another exchange than its status asks for; how
+//! many drains with no limit left a message waiting; and whether any script differed.
 use arrayvec::ArrayVec;
 use model::answer::{Answer, Outcome, Refusal};
 use model::network::Network;
@@ -101,6 +101,10 @@ fn is_denied_by_out(line: Line, network: &Network) -> bool {
     }
 }
 
+fn is_unlimited(line: Line) -> bool {
+    matches!(line.record, Some(Record::Drain { budget: 0 }))
+}
+
 /// Where a script differs first, counted from 1.
 #[derive(Clone, Copy)]
 pub(crate) struct Difference {
@@ -112,7 +116,7 @@ pub(crate) struct Difference {
 /// There is room for every answer below every label.
 #[derive(Default, Drop)]
 pub(crate) struct Ledger {
-    tallies: ArrayVec<Tally, 350>,
+    tallies: ArrayVec<Tally, 385>,
     with_full_queue: usize,
     records: usize,
     scripts: usize,
@@ -120,6 +124,8 @@ pub(crate) struct Ledger {
     passed_over: usize,
     with_both_faults: usize,
     denied_by_out: usize,
+    unlimited: usize,
+    unfinished: usize,
     unbalanced: usize,
     mismatched: usize,
     differing: usize,
@@ -163,6 +169,12 @@ impl Ledger {
         if is_denied_by_out(line, network) {
             self.denied_by_out = self.denied_by_out.saturating_add(1);
         }
+        if is_unlimited(line) {
+            self.unlimited = self.unlimited.saturating_add(1);
+            if network.waiting() > 0 {
+                self.unfinished = self.unfinished.saturating_add(1);
+            }
+        }
         if !network.accounts_balance() {
             self.unbalanced = self.unbalanced.saturating_add(1);
         }
@@ -201,6 +213,8 @@ impl fmt::Display for Ledger {
             passed_over,
             with_both_faults,
             denied_by_out,
+            unlimited,
+            unfinished,
             unbalanced,
             mismatched,
             differing,
@@ -213,6 +227,8 @@ impl fmt::Display for Ledger {
         writeln!(f, "{passed_over} places passed over in drains")?;
         writeln!(f, "{with_both_faults} joins told 25 that met 24 too")?;
         writeln!(f, "{denied_by_out} requests denied by a node that is out")?;
+        writeln!(f, "{unlimited} drains with no limit")?;
+        writeln!(f, "{unfinished} of them left a message waiting")?;
         writeln!(
             f,
             "{unbalanced} records after which the accounts do not balance"

@@ -6,11 +6,15 @@ use arrayvec::ArrayVec;
 use model::answer::Refusal;
 use model::printing::{LONGEST, first_difference};
 use model::reading::Player;
+use model::script::Record;
 use std::iter;
 use text::Page;
 
-// More than a script has, since each has three bytes or more.
-const MOST_RECORDS: usize = 30_000;
+// More than a script has, since each has two bytes or more.
+const MOST_RECORDS: usize = 33_000;
+
+// The number of the script that has as many records as there can be.
+const MOST_LINES: u32 = 6;
 
 // How long a script is at most: the first few are at the limits, and the others short, or longer,
 // or a few of them long.
@@ -92,12 +96,24 @@ impl Match {
         }
     }
 
+    // Makes a script of PK alone, which has two bytes: none has more records, nor more lines.
+    fn fill_with_peeks(&mut self) {
+        for _ in 0..LONGEST / 2 {
+            let _ = Record::Peek.append_to(&mut self.script);
+        }
+        self.play_from(0);
+    }
+
     // Makes the script of a number, and enters what comes of its records.
     fn make(&mut self, ordinal: u32) {
         let mood = Throw::of_script(ordinal);
         let most = most_bytes(ordinal, mood);
         self.script.clear();
         self.player = Player::new();
+        if ordinal == MOST_LINES {
+            self.fill_with_peeks();
+            return;
+        }
         if most > LONGEST {
             let _ = self.script.extend(iter::repeat_n(0, most));
             self.ledger

@@ -10,7 +10,7 @@ use model::rules::Kind;
 use model::script::{Mark, Record, Serial};
 use std::iter;
 
-const MARKS: [Mark; 9] = [
+const MARKS: [Mark; 10] = [
     Mark::Bc,
     Mark::Bn,
     Mark::Cr,
@@ -20,6 +20,7 @@ const MARKS: [Mark; 9] = [
     Mark::Oc,
     Mark::On,
     Mark::Rd,
+    Mark::Pk,
 ];
 
 // Marks that are none.
@@ -59,14 +60,14 @@ impl Temper {
 
     // For each of the marks a share of a hundred, in the order of `MARKS`: with its mark beside
     // each number this would no longer read as a table.
-    fn shares(self) -> [u32; 9] {
+    fn shares(self) -> [u32; 10] {
         match self {
-            Temper::Few => [1, 1, 3, 25, 14, 47, 3, 3, 3],
-            Temper::Many => [2, 2, 1, 22, 7, 49, 7, 7, 3],
-            Temper::Hoarding => [1, 1, 1, 22, 18, 50, 2, 2, 3],
-            Temper::Draining => [2, 1, 3, 34, 18, 7, 7, 7, 21],
-            Temper::Any => [4, 4, 8, 22, 16, 30, 6, 5, 5],
-            Temper::Lone => [1, 1, 14, 18, 20, 37, 3, 3, 3],
+            Temper::Few => [1, 1, 3, 25, 14, 46, 3, 3, 3, 1],
+            Temper::Many => [2, 2, 1, 22, 7, 48, 7, 7, 3, 1],
+            Temper::Hoarding => [1, 1, 1, 22, 18, 49, 2, 2, 3, 1],
+            Temper::Draining => [2, 1, 3, 34, 18, 6, 6, 6, 21, 3],
+            Temper::Any => [4, 4, 8, 22, 16, 29, 5, 5, 5, 2],
+            Temper::Lone => [1, 1, 14, 18, 20, 36, 3, 3, 3, 1],
         }
     }
 }
@@ -235,6 +236,7 @@ impl Draw<'_> {
         }
     }
 
+    // Each may be 0, and then the drain has no limit.
     fn budget(&self) -> u16 {
         let some = self.throw.below(Purpose::Budget, 65_536) as u16;
         match self.throw.below(Purpose::BudgetKind, 12) {
@@ -270,6 +272,7 @@ impl Draw<'_> {
             Mark::Rd => Record::Drain {
                 budget: self.budget(),
             },
+            Mark::Pk => Record::Peek,
         }
     }
 
@@ -295,7 +298,7 @@ impl Draw<'_> {
             Record::Deliver { place } => self.prospect(network.delivery(usize::from(place))),
             Record::Owner { start, .. } if network.is_inserted(start) => Some(Came::Owner),
             Record::Owner { .. } => Some(Came::Refused(Refusal::NotInserted)),
-            Record::Drain { .. } => Some(Came::Ran),
+            Record::Drain { .. } | Record::Peek => Some(Came::Ran),
         }
     }
 
@@ -388,8 +391,8 @@ impl Draw<'_> {
                 start: maybe,
                 serial: self.faulty_binary(),
             },
-            Mark::Rd if throw.one_of(Purpose::NoMark, 8) => return self.no_mark(wrong),
-            Mark::Rd => Record::Create { node: wrong },
+            Mark::Rd | Mark::Pk if throw.one_of(Purpose::NoMark, 8) => return self.no_mark(wrong),
+            Mark::Rd | Mark::Pk => Record::Create { node: wrong },
         })
     }
 
@@ -417,7 +420,7 @@ impl Draw<'_> {
             return Piece::Record(Record::Declare(Serial::packed(self.serial())));
         }
         if self.is_tight() && throw.one_of(Purpose::TightDrain, 2) {
-            let budget = throw.below(Purpose::TightBudget, 3) as u16 + 1;
+            let budget = throw.below(Purpose::TightBudget, 4) as u16;
             return Piece::Record(Record::Drain { budget });
         }
         if throw.one_of(Purpose::Fault, 32) {

@@ -20,6 +20,7 @@ use Rattle.protocol.specs.declared.Call.{Call as AnyCall}
 use Rattle.protocol.specs.declared.Call.TheVariants.{Order}
 use Rattle.protocol.specs.State.{State, well_formed}
 use Rattle.protocol.specs.Calls.{refused}
+use Rattle.protocol.specs.Questions.{peek_of}
 use Rattle.protocol.specs.History.{history}
 use Rattle.protocol.proofs.Facts.{well-formed}
 use Rattle.protocol.proofs.Refusals.{six, calls_never_31, owner_never_six}
@@ -27,7 +28,7 @@ use Rattle.protocol.proofs.Drains.{drain_is}
 use Rattle.protocol.proofs.Owners.{always_found}
 use Rattle.protocol.proofs.Theorem.{ring}
 use Rattle.script.specs.declared.Record.{Record}
-use Rattle.script.specs.declared.Record.TheVariants.{Call, Declare, Owner, Drain}
+use Rattle.script.specs.declared.Record.TheVariants.{Call, Declare, Owner, Drain, Peek}
 use Rattle.course.specs.Execution.{unread, field_rules, value_of, executing, execute_of}
 
 -- ---- the fields give 3, 4 and 5
@@ -41,6 +42,7 @@ fields_give three four five s (Call call) = end
 fields_give three four five s (Declare serial) = serial_gives three four serial
 fields_give three four five s (Owner start serial) = other five (λ _. serial_gives three four serial)
 fields_give three four five s (Drain budget) = end
+fields_give three four five s Peek = end
 
 -- ---- so a record of a well-formed network says another number only where what it does says it
 said_by_doing : (s : State) → T (well_formed s) → (asked : Record) {n : ℕ} → Never n (field_rules s asked) → ¬ ((executing s asked).said ≡ no (plain n)) → ¬ ((execute_of s asked).said ≡ no (plain n))
@@ -54,9 +56,13 @@ said_by_doing s w asked {n} fields doing e = go (first ((6 when not (well_formed
     go None clear f = doing f
     go (Some r) refuses f = never rules cc
 
--- a drain of a well-formed network is not refused
+-- a drain of a well-formed network is not refused, nor the question how many messages wait
 drain_done : (s : State) → T (well_formed s) → (budget : ℕ) (r : Reason) → ¬ ((executing s (Drain budget)).said ≡ no r)
 drain_done s w budget r e = let f = rw (drain_is s budget w) at e in impossible cc
+
+peek_done : (s : State) → T (well_formed s) → (r : Reason) → ¬ ((executing s Peek).said ≡ no r)
+unfolding peek_of
+peek_done s w r e = let f = rw (is_true (well_formed s) w) at e in impossible cc
 
 -- ---- 6
 call-not-six : (s : State) → T (well_formed s) → (call : AnyCall) → ¬ ((executing s (Call call)).said ≡ no (plain 6))
@@ -67,6 +73,7 @@ doing_not_six s w (Call call) = call-not-six s w call
 doing_not_six s w (Declare serial) = call-not-six s w (Order (DeclareOrder (value_of (coded serial))))
 doing_not_six s w (Owner start serial) = owner_never_six s (well-formed s (is_true _ w)) start (value_of (coded serial))
 doing_not_six s w (Drain budget) = drain_done s w budget (plain 6)
+doing_not_six s w Peek = peek_done s w (plain 6)
 
 pub never-six : (s : State) → T (well_formed s) → (asked : Record) → ¬ ((execute_of s asked).said ≡ no (plain 6))
 never-six s w asked = said_by_doing s w asked (fields_give refl refl refl s asked) (doing_not_six s w asked)
@@ -84,6 +91,7 @@ module _ (calls : List AnyCall) where
   doing-not-31 (Declare serial) = calls_never_31 here (Order (DeclareOrder (value_of (coded serial))))
   doing-not-31 (Owner start serial) = always_found calls start (value_of (coded serial))
   doing-not-31 (Drain budget) = drain_done here well-formed-here budget (plain 31)
+  doing-not-31 Peek = peek_done here well-formed-here (plain 31)
 
   pub never_31 : (asked : Record) → ¬ ((execute_of here asked).said ≡ no (plain 31))
   never_31 asked = said_by_doing here well-formed-here asked (fields_give refl refl refl here asked) (doing-not-31 asked)

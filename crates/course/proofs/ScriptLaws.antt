@@ -1,4 +1,4 @@
--- A run over a script, by the definition: each record moves the cursor past three bytes at least or
+-- A run over a script, by the definition: each record moves the cursor past two bytes at least or
 -- to the end, so that the ordinal and the messages posted stay small; and at the end nothing
 -- changes any more. Assumes nothing.
 use mathlib.Core.Path.{◌≡◌, refl, ap, ◌∙◌}
@@ -12,7 +12,7 @@ use Rattle.refusal.specs.Code.{Reason}
 use Rattle.protocol.specs.State.{well_formed}
 use Rattle.script.specs.declared.Record.{Record}
 use Rattle.script.specs.Script.{Read, end, stop, next, read_at}
-use Rattle.script.proofs.Laws.{at-end, before-end, after-cursor}
+use Rattle.script.proofs.Laws.{two-at-least, at-end, before-end, after-cursor}
 use Rattle.course.proofs.RecordLaws.{record-kept, record-posts}
 use Rattle.course.specs.Run.{Progress, advanced, step_of, after}
 
@@ -20,9 +20,9 @@ use Rattle.course.specs.Run.{Progress, advanced, step_of, after}
 pub record Within (script : List ℕ) (p : Progress) : Type 0 where
   pub sound : T (well_formed p.state)
   pub inside : p.at ≤ length script
-  -- each record has three bytes at least; the last may be cut short
-  pub records : p.at < length script → 3 * p.ordinal ≤ p.at
-  pub few : 3 * p.ordinal ≤ p.at + 2
+  -- each record has two bytes at least; the last may be cut short
+  pub records : p.at < length script → 2 * p.ordinal ≤ p.at
+  pub few : 2 * p.ordinal ≤ p.at + 1
   pub posts : p.posted ≤ 384 * p.ordinal
 
 module _ (script : List ℕ) (p : Progress) (h : Within script p) (not-ended : p.at < length script) where
@@ -35,7 +35,7 @@ module _ (script : List ℕ) (p : Progress) (h : Within script p) (not-ended : p
     posts = omega (arith, h.posts);
   }
 
-  next-within : (e : Record) (c : ℕ) → p.at + 3 ≤ c → c ≤ length script → Within script (advanced script p (next e c))
+  next-within : (e : Record) (c : ℕ) → p.at + 2 ≤ c → c ≤ length script → Within script (advanced script p (next e c))
   next-within e c far inside = record {
     sound = record-kept p.state h.sound e;
     inside = inside;
@@ -50,13 +50,13 @@ module _ (script : List ℕ) (p : Progress) (h : Within script p) (not-ended : p
       go : (r : Read) → read_at script p.at ≡ r → Within script (advanced script p r)
       go end e = h
       go (stop n) e = stopped-within n
-      go (next e c) read = let (far, inside) = after-cursor script p.at e c read in next-within e c far inside
+      go (next e c) read = let (far, inside) = after-cursor script p.at e c read in next-within e c (omega (arith, far, two-at-least e)) inside
 
   -- and it is one record further, with the cursor past it
   step-moves : (r : Read) → read_at script p.at ≡ r → ((advanced script p r).ordinal ≡ p.ordinal + 1) × (p.at < (advanced script p r).at)
   step-moves end e = absurd (before-end script p.at not-ended e)
   step-moves (stop n) e = (omega arith, not-ended)
-  step-moves (next e c) read = let (far, inside) = after-cursor script p.at e c read in (omega arith, omega arith)
+  step-moves (next e c) read = let (far, inside) = after-cursor script p.at e c read in (omega arith, omega (arith, two-at-least e))
 
   pub one-record : (step_of script p).ordinal ≡ p.ordinal + 1
   one-record = (step-moves (read_at script p.at) refl).0

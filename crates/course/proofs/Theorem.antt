@@ -23,16 +23,15 @@ use Rattle.protocol.specs.declared.Order.TheVariants.{Declare}
 use Rattle.protocol.specs.declared.Call.{Call}
 use Rattle.protocol.specs.declared.Call.TheVariants.{Order, Deliver}
 use Rattle.protocol.specs.declared.Reply.{Reply}
-use Rattle.protocol.specs.State.{State, well_formed}
+use Rattle.protocol.specs.State.{State, requests, well_formed}
 use Rattle.protocol.specs.Calls.{Result, refused, apply_of}
 use Rattle.protocol.specs.History.{History, start, history}
-use Rattle.protocol.specs.Claim.{requests}
 use Rattle.protocol.specs.Drain.{places, drain_of}
 use Rattle.protocol.proofs.Drains.{run_append, drain_is_calls}
 use Rattle.protocol.proofs.Owners.{always_found}
 use Rattle.protocol.proofs.Theorem.{ring}
 use Rattle.script.specs.declared.Record.{Record}
-use Rattle.script.specs.declared.Record.TheVariants.{Call as CallRecord, Declare as DeclareRecord, Owner as OwnerRecord, Drain as DrainRecord}
+use Rattle.script.specs.declared.Record.TheVariants.{Call as CallRecord, Declare as DeclareRecord, Owner as OwnerRecord, Drain as DrainRecord, Peek as PeekRecord}
 use Rattle.script.specs.Script.{Read, end, stop, next, read_at}
 use Rattle.script.proofs.Laws.{stops-by}
 use Rattle.printout.specs.Lines.{heading, line_of}
@@ -74,6 +73,7 @@ module _ (calls : List Call) where
   done-so (DeclareRecord (Err TooLarge)) clear = impossible cc
   done-so (OwnerRecord from serial) clear = nothing-more (executing here (OwnerRecord from serial)) refl refl
   done-so (DrainRecord budget) clear = drained-so budget
+  done-so PeekRecord clear = nothing-more (executing here PeekRecord) refl refl
 
   refused-so : (asked : Record) (r : Reason) → first (field_rules here asked) ≡ Some r → Follows calls (calls_of here asked) (refused here r)
   refused-so (CallRecord call) r e = impossible cc
@@ -82,6 +82,7 @@ module _ (calls : List Call) where
   refused-so (DeclareRecord (Err TooLarge)) r e = nothing-more (refused here r) refl refl
   refused-so (OwnerRecord from serial) r e = nothing-more (refused here r) refl refl
   refused-so (DrainRecord budget) r e = impossible cc
+  refused-so PeekRecord r e = impossible cc
 
   follows : (asked : Record) → Follows calls (calls_of here asked) (execute_of here asked)
   unfolding execute_of

@@ -15,7 +15,7 @@ use Rattle.protocol.specs.Claim.{posted_for, Settled, Sound}
 use Rattle.protocol.specs.Questions.{owner_of}
 use Rattle.protocol.specs.Drain.{places}
 use Rattle.script.specs.declared.Record.{Record}
-use Rattle.script.specs.declared.Record.TheVariants.{Call as CallRecord, Declare as DeclareRecord, Owner as OwnerRecord, Drain as DrainRecord}
+use Rattle.script.specs.declared.Record.TheVariants.{Call as CallRecord, Declare as DeclareRecord, Owner as OwnerRecord, Drain as DrainRecord, Peek as PeekRecord}
 use Rattle.script.specs.Script.{Read, end, stop, next, read_at}
 use Rattle.printout.specs.Lines.{heading, line_of}
 use Rattle.course.specs.Execution.{execute_of}
@@ -29,6 +29,7 @@ calls_of s (DeclareRecord (Ok key)) = Order (Declare key) ∷ []
 calls_of s (DeclareRecord (Err e)) = []
 calls_of s (OwnerRecord start serial) = []
 calls_of s (DrainRecord budget) = map Deliver (places budget s)
+calls_of s PeekRecord = []
 
 -- R10.11: the calls of what is read at a cursor
 abbrev pub calls_read : State → Read → List Call

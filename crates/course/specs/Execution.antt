@@ -9,10 +9,10 @@ use Rattle.protocol.specs.declared.Call.TheVariants.{Order}
 use Rattle.protocol.specs.declared.Reply.{Reply}
 use Rattle.protocol.specs.State.{State, declared, well_formed}
 use Rattle.protocol.specs.Calls.{Result, refused, apply_of}
-use Rattle.protocol.specs.Questions.{owner_of}
+use Rattle.protocol.specs.Questions.{peek_of, owner_of}
 use Rattle.protocol.specs.Drain.{drain_of}
 use Rattle.script.specs.declared.Record.{Record}
-use Rattle.script.specs.declared.Record.TheVariants.{Call, Declare, Owner, Drain}
+use Rattle.script.specs.declared.Record.TheVariants.{Call, Declare, Owner, Drain, Peek}
 
 -- ---- the refusals of the fields that the calls themselves do not see
 -- R9.6: refusals 3 and 4 of a serial, as it says at its turn
@@ -26,6 +26,7 @@ field_rules s (Call call) = []
 field_rules s (Declare serial) = unread (coded serial)
 field_rules s (Owner start serial) = (5 when not (declared s start)) ∷ unread (coded serial)
 field_rules s (Drain budget) = []
+field_rules s Peek = []
 
 -- ---- what is done where none of these refuses
 -- R9.6: the serial; where it is refused it is not asked for
@@ -33,7 +34,7 @@ abbrev pub value_of : Coded ℕ → ℕ
 value_of (done d) = d
 value_of (no r) = 0
 
--- R7.3: a question changes nothing and posts nothing
+-- R7.3, R8.5: a question changes nothing and posts nothing
 abbrev pub saying : State → Coded Reply → Result
 saying s said = record { state = s; posts = []; said = said }
 
@@ -43,6 +44,7 @@ executing s (Call call) = apply_of s call
 executing s (Declare serial) = apply_of s (Order (DeclareOrder (value_of (coded serial))))
 executing s (Owner start serial) = saying s (owner_of s start (value_of (coded serial)))
 executing s (Drain budget) = drain_of s budget
+executing s Peek = saying s (peek_of s)
 
 -- R9.6: 6, the fields, and then what the call, the question or the drain refuses
 unfoldable pub execute_of : State → Record → Result

@@ -16,8 +16,8 @@ use refusal::Refusal;
 use report::Report;
 use std::io;
 
-// Five calls and a drain by value, the same in place, and the two questions.
-const DOORS: usize = 14;
+// Five calls and a drain by value, the same in place, and the three questions.
+const DOORS: usize = 15;
 
 const DRAWN: u32 = 500;
 
@@ -58,11 +58,12 @@ fn refused(network: Network) -> usize {
         &on_copy(network, |n| engine::act(n, **call)),
     ));
     let others = [
-        is_unchanged(&network, &engine::drain(network, 9)),
+        is_unchanged(&network, &engine::drain(network, 0)),
         is_unchanged(
             &network,
             &on_copy(network, |n| engine::drain_in_place(n, 9)),
         ),
+        engine::peek(network) == Err(Refusal::Malformed),
         engine::inserted(network) == Err(Refusal::Malformed),
         engine::owner(network, 0, 1_500) == Err(Refusal::Malformed),
     ];
@@ -88,17 +89,20 @@ fn no_ring(rt: &impl Print) -> io::Result<()> {
     )
 }
 
-// R10.13: such a network is drained all the same, by no more deliveries than its load, which is
-// three, and is left well formed.
+// R8.4, R10.13: such a network is drained all the same, by no more deliveries than its load, which
+// is three, and is left well formed.
 fn drained(rt: &impl Print) -> io::Result<()> {
     let network = faults::no_ring_with_a_request();
-    let called = engine::drain(network, 9);
-    let Ok(Reply::Ran { made, .. }) = called.report.answer else {
+    let called = engine::drain(network, 0);
+    let (Ok(Reply::Ran { left: waiting, .. }), Ok(Reply::Ran { made, left })) = (
+        engine::peek(network),
+        called.report.answer,
+    ) else {
         return Ok(());
     };
-    println!(rt;
-        "R10.13, a drain of such a network, with a request that is granted, makes deliveries: {made}"
-    )?;
+    println!(rt; "R8.5, such a network with a request that is granted, waiting: {waiting}")?;
+    println!(rt; "R8.4, R10.13, a drain of it with no limit makes deliveries: {made}")?;
+    println!(rt; "R8.4, and leaves waiting: {left}")?;
     println!(rt;
         "R10.13, of the networks before and after it, so many are well formed: {}",
         [network, called.network]

@@ -3,28 +3,28 @@
 -- drain does not go on it is finished. Assumes nothing.
 use mathlib.Core.Path.{◌≡◌, refl, sym, ap, ◌∙◌}
 use mathlib.Core.Logic.{⊎_elim, ◌≢◌}
-use mathlib.Core.Bool.{true, false, cond, ◌&&◌}
+use mathlib.Core.Bool.{Bool, true, false, cond, ◌&&◌, ◌||◌}
 use mathlib.Core.List.{List, [], ◌∷◌}
 use Rattle.std.specs.Prelude.{None, Some, unwrap_or}
 use Prim.Native.Nat.{ℕ, zero, suc, ◌+◌, ◌*◌, ◌-◌, ◌^◌, ◌≤◌, ◌<◌}
 use native.Mathlib.Omega.{arith}
 use lib.ListN.{length, length-append, length-replicate}
-use lib.Dec.{ltb}
-use borrow.Author.Tests.{lt-ltb, ltb-true, ltb-false}
-use Rattle.predicates.proofs.Laws.{both}
-use Rattle.predicates.proofs.TestLaws.{decided, holds, is_true, not-both}
+use lib.Dec.{eqb, ltb}
+use borrow.Author.Tests.{lt-ltb, ltb-true, ltb-false, eqb-true, eqb-false}
+use Rattle.predicates.proofs.Laws.{impossible, both}
+use Rattle.predicates.proofs.TestLaws.{decided, holds, is_true, bit-true}
 use Rattle.refusal.specs.Rules.{done, first}
 use Rattle.node.specs.Shape.{capacity}
 use Rattle.protocol.specs.declared.Call.TheVariants.{Deliver}
 use Rattle.protocol.specs.declared.Reply.TheVariants.{Ran}
-use Rattle.protocol.specs.State.{State, queue_limit, well_formed as lists_are_well_formed}
+use Rattle.protocol.specs.State.{State, queue_limit, load, well_formed as lists_are_well_formed}
 use Rattle.protocol.specs.Calls.{deliver_rules, apply_of as apply_to_lists}
-use Rattle.protocol.specs.Drain.{lowest_from, lowest, after_delivery, places, deliver_all, posts_of_all, drain_of as drain_lists}
+use Rattle.protocol.specs.Drain.{lowest_from, lowest, after_delivery, places_within, limit, places, deliver_all, posts_of_all, drain_of as drain_lists}
 use Rattle.protocol.proofs.Facts.{well-formed as lists-well-formed}
-use Rattle.protocol.proofs.Lively.{steady}
+use Rattle.protocol.proofs.Lively.{lowers, steady}
 use Rattle.protocol.proofs.Cases.{accepted_case}
 use Rattle.protocol.proofs.Refusals.{accepted-said}
-use Rattle.protocol.proofs.Drains.{can_deliver, lowest-at, some-lowest, places-none, places-next}
+use Rattle.protocol.proofs.Drains.{can_deliver, lowest-at, finds-lowest, load-of-all, places-none, places-next}
 use Rattle.protocol.proofs.Posted.{few-posts}
 use Rattle.network.specs.declared.Network.{Network}
 use Rattle.network.specs.Arrays.{vacant_node, vacant_message, live, well_formed, filled, held}
@@ -57,18 +57,12 @@ first-is-lowest n l h waits few =
     lowest-at (live n) 0 (omega (arith, all)) (λ q k. absurd (omega arith)) (rw clear (is_true _ (accepted-said (accepted_case (live n) (Deliver 0) clear))))
 
 -- where a message waits the search for the lowest place ends at one
-ends_somewhere : (s : State) (k from q : ℕ) → from ≤ q → q < from + k → can_deliver s q ≡ true → lowest_from s from k ≡ Some (unwrap_or (lowest_from s from k) 0)
-ends_somewhere s zero from q above below can = absurd (omega arith)
-ends_somewhere s (suc k) from q above below can =
-    ⊎_elim (λ t. rw t) (λ f. rw f (ends_somewhere s k (suc from) q (past f) (omega arith) can)) (decided (can_deliver s from))
-  where
-    past : can_deliver s from ≡ false → from < q
-    past refused = let other : from ≢ q = λ e. not-both (ap (can_deliver s) e ∙ can) refused in omega arith
-
-next_place : (n : Network) → Lengths n → well_formed n ≡ true → 0 < n.waiting → lowest (live n) ≡ Some (unwrap_or (lowest (live n)) 0)
+next_place : (n : Network) → Lengths n → well_formed n ≡ true → 0 < n.waiting
+    → (lowest (live n) ≡ Some (unwrap_or (lowest (live n)) 0)) × (can_deliver (live n) (unwrap_or (lowest (live n)) 0) ≡ true)
 next_place n l h waits =
-    let (q, there, can) = some-lowest (live n) (holds (well-formed n h).lists) (omega (arith, messages-length n l h)) in
-    ends_somewhere (live n) (length (live n).messages) 0 q (omega arith) (omega arith) (is_true _ can)
+    let (place, e, can) = finds-lowest (live n) (holds (well-formed n h).lists) (omega (arith, messages-length n l h)) in
+    let there : unwrap_or (lowest (live n)) 0 ≡ place = rw e in
+    (e ∙ ap Some (sym there), ap (can_deliver (live n)) there ∙ can)
 
 -- the code looks for that place
 module _ (n : Network) (l : Lengths n) (h : well_formed n ≡ true) where
@@ -81,24 +75,63 @@ module _ (n : Network) (l : Lengths n) (h : well_formed n ≡ true) where
   pub lowest-is : lowest (live n) ≡ lowest_place n
   lowest-is = ap (lowest_from (live n) 0) (messages-length n l h) ∙ same-search 0 n.waiting (omega arith)
 
+-- ---- how many deliveries a drain may make
+neither : (p q : Bool) → (p || q) ≡ false → (p ≡ false) × (q ≡ false)
+neither true q e = impossible (sym e)
+neither false q e = (refl, e)
+
+-- it goes on while its budget allows and a message waits
+abbrev pub goes_on : (budget made waiting : ℕ) → Bool
+goes_on budget made waiting = (eqb budget 0 || ltb made budget) && ltb 0 waiting
+
+-- a budget that is not 0 allows as many as it says
+limit-of : (budget : ℕ) (s : State) → budget ≢ 0 → limit budget s ≡ budget
+limit-of zero s some = absurd (some refl)
+limit-of (suc budget) s some = refl
+
+-- and 0 no more than two bytes can count
+few-allowed : (budget : ℕ) (n : Network) → well_formed n ≡ true → budget < 2 ^ 16 → limit budget (live n) ≤ 65_535
+few-allowed zero n h small = omega (arith, (load-of-all (live n).messages).1, (lists-well-formed (live n) (well-formed n h).lists).few_messages)
+few-allowed (suc budget) n h small = omega arith
+
 -- ---- a drain that has made some of its deliveries
 pub record Underway (start : Network) (budget : ℕ) (n : Network) (made posted : ℕ) : Type 0 where
   pub arrays : Lengths n
   pub well_formed : well_formed n ≡ true
-  pub spent : made ≤ budget
+  pub spent : made ≤ limit budget (live start)
+  pub lowered : load (live n).messages + made ≤ load (live start).messages
   pub few : posted ≤ 2 * made
-  pub ends : deliver_all (live n) (places (budget - made) (live n)) ≡ deliver_all (live start) (places budget (live start))
-  pub counts : made + length (places (budget - made) (live n)) ≡ length (places budget (live start))
-  pub posts : posted + length (posts_of_all (live n) (places (budget - made) (live n))) ≡ length (posts_of_all (live start) (places budget (live start)))
+  pub ends : deliver_all (live n) (places_within (limit budget (live start) - made) (live n)) ≡ deliver_all (live start) (places budget (live start))
+  pub counts : made + length (places_within (limit budget (live start) - made) (live n)) ≡ length (places budget (live start))
+  pub posts : posted + length (posts_of_all (live n) (places_within (limit budget (live start) - made) (live n))) ≡ length (posts_of_all (live start) (places budget (live start)))
 
 pub begins : (n : Network) (budget : ℕ) → Lengths n → well_formed n ≡ true → Underway n budget n 0 0
 begins n budget l h =
-    let all : budget - 0 ≡ budget = omega arith in
-    record { arrays = l; well_formed = h; spent = omega arith; few = omega arith; ends = rw all; counts = rw all (omega arith); posts = rw all (omega arith) }
+    let all : limit budget (live n) - 0 ≡ limit budget (live n) = omega arith in
+    record { arrays = l; well_formed = h; spent = omega arith; lowered = omega arith; few = omega arith; ends = rw all; counts = rw all (omega arith); posts = rw all (omega arith) }
 
 module _ {start : Network} {budget : ℕ} {n : Network} {made posted : ℕ} (u : Underway start budget n made posted) where
+  abbrev allowed : ℕ
+  allowed = limit budget (live start)
+
+  -- where a message waits it counts in the load, so that what is left of the load is not spent
+  module _ (goes : goes_on budget made n.waiting ≡ true) where
+    waits : 0 < n.waiting
+    waits = ltb-true 0 n.waiting (both (eqb budget 0 || ltb made budget) _ goes).1
+
+    pub not-spent : made < allowed
+    not-spent = ⊎_elim of-any of-some (decided (eqb budget 0))
+      where
+        of-any : eqb budget 0 ≡ true → made < allowed
+        of-any t = let none : budget ≡ 0 = eqb-true budget 0 t in
+            rw none (omega (arith, u.lowered, (load-of-all (live n).messages).0, messages-length n u.arrays u.well_formed, waits))
+
+        of-some : eqb budget 0 ≡ false → made < allowed
+        of-some f = let left : ltb made budget ≡ true = rw f at (both (eqb budget 0 || ltb made budget) _ goes).0 in
+            rw (limit-of budget (live start) (eqb-false budget 0 f)) (ltb-true made budget left)
+
   -- one delivery more, which is of a few messages
-  module _ (place : ℕ) (x : Counted) (goes : (ltb made budget && ltb 0 n.waiting) ≡ true) (at : lowest (live n) ≡ Some place) (e : x ≡ counted (apply_of n (Deliver place))) where
+  module _ (place : ℕ) (x : Counted) (goes : goes_on budget made n.waiting ≡ true) (at : lowest (live n) ≡ Some place) (can : can_deliver (live n) place ≡ true) (e : x ≡ counted (apply_of n (Deliver place))) where
     next : State
     next = after_delivery (live n) place
 
@@ -113,40 +146,45 @@ module _ {start : Network} {budget : ℕ} {n : Network} {made posted : ℕ} (u :
     two : x.posted ≤ 2
     two = omega (arith, came.1, few-posts (live n) (Deliver place))
 
-    pub tally-fits : budget < 2 ^ 16 → (made < 65_535) × (posted + x.posted < 4_294_967_296)
-    tally-fits small = let left = ltb-true made budget (both (ltb made budget) _ goes).0 in (omega (arith, left), omega (arith, left, two, u.few))
-
-    pub goes_on : Underway start budget x.network (made + 1) (posted + x.posted)
+    pub one-more : Underway start budget x.network (made + 1) (posted + x.posted)
     unfolding next
-    goes_on =
-        let left = ltb-true made budget (both (ltb made budget) _ goes).0 in
+    one-more =
+        let left = not-spent goes in
         let sent = (apply_to_lists (live n) (Deliver place)).posts in
         let lists : live x.network ≡ next = ap live came.0 ∙ live-held next in
-        let one : budget - made ≡ suc (budget - (made + 1)) = omega arith in
-        let head : places (budget - made) (live n) ≡ place ∷ places (budget - (made + 1)) next = ap (λ k. places k (live n)) one ∙ places-next (budget - (made + 1)) (live n) place at in
+        let one : allowed - made ≡ suc (allowed - (made + 1)) = omega arith in
+        let head : places_within (allowed - made) (live n) ≡ place ∷ places_within (allowed - (made + 1)) next =
+            ap (λ k. places_within k (live n)) one ∙ places-next (allowed - (made + 1)) (live n) place at in
         record {
           arrays = rw came.0 (held-lengths next kept);
           well_formed = rw came.0 (held_well_formed next kept);
           spent = omega arith;
+          lowered = omega (arith, ap (λ (s : State). load s.messages) lists, u.lowered, lowers (live n) place, bit-true can);
           few = omega (arith, two, u.few);
           ends = rw lists (ap (deliver_all (live n)) (sym head) ∙ u.ends);
           counts = rw lists (omega (arith, u.counts, ap length head));
-          posts = rw lists (omega (arith, u.posts, ap (λ l. length (posts_of_all (live n) l)) head, came.1, length-append sent (posts_of_all next (places (budget - (made + 1)) next))));
+          posts = rw lists (omega (arith, u.posts, ap (λ l. length (posts_of_all (live n) l)) head, came.1, length-append sent (posts_of_all next (places_within (allowed - (made + 1)) next))));
         }
 
-  -- the next delivery, and what it comes to
-  module _ (x : Counted) (goes : (ltb made budget && ltb 0 n.waiting) ≡ true) (e : x ≡ counted (next_delivery n)) where
-    place : lowest (live n) ≡ Some (unwrap_or (lowest (live n)) 0)
-    place = next_place n u.arrays u.well_formed (ltb-true 0 n.waiting (both (ltb made budget) _ goes).1)
+    pub tally-fits : allowed ≤ 65_535 → (made < 65_535) × (posted + x.posted < 4_294_967_296)
+    tally-fits small = let left = not-spent goes in (omega (arith, left), omega (arith, left, two, u.few))
 
-    pub next_fits : budget < 2 ^ 16 → (made < 65_535) × (posted + x.posted < 4_294_967_296)
-    next_fits small = tally-fits (unwrap_or (lowest (live n)) 0) x goes place e small
+  -- the next delivery, and what it comes to
+  module _ (x : Counted) (goes : goes_on budget made n.waiting ≡ true) (e : x ≡ counted (next_delivery n)) where
+    abbrev place : ℕ
+    place = unwrap_or (lowest (live n)) 0
+
+    there : (lowest (live n) ≡ Some place) × (can_deliver (live n) place ≡ true)
+    there = next_place n u.arrays u.well_formed (waits goes)
+
+    pub next_fits : well_formed start ≡ true → budget < 2 ^ 16 → (made < 65_535) × (posted + x.posted < 4_294_967_296)
+    next_fits h small = tally-fits place x goes there.0 there.1 e (few-allowed budget start h small)
 
     pub next-goes-on : Underway start budget x.network (made + 1) (posted + x.posted)
-    next-goes-on = goes_on (unwrap_or (lowest (live n)) 0) x goes place e
+    next-goes-on = one-more place x goes there.0 there.1 e
 
   -- nothing more to be delivered
-  finished : well_formed start ≡ true → places (budget - made) (live n) ≡ []
+  finished : well_formed start ≡ true → places_within (allowed - made) (live n) ≡ []
       → record { network = n; posted = posted; said = done (Ran made n.waiting) } ≡ counted (drain_of start budget)
   unfolding drain_of drain_lists
   finished h none_left =
@@ -158,14 +196,18 @@ module _ {start : Network} {budget : ℕ} {n : Network} {made posted : ℕ} (u :
       let sent : posted ≡ length (posts_of_all (live start) (places budget (live start))) = omega (arith, u.posts, ap (λ l. length (posts_of_all (live n) l)) none_left) in
       rw (h, (well-formed start h).lists) (λ i. record { network = network i; posted = sent i; said = done (Ran (all i) (left i)) })
 
-  pub stops : well_formed start ≡ true → (ltb made budget && ltb 0 n.waiting) ≡ false
+  pub stops : well_formed start ≡ true → goes_on budget made n.waiting ≡ false
       → record { network = n; posted = posted; said = done (Ran made n.waiting) } ≡ counted (drain_of start budget)
-  stops h over = finished h (⊎_elim none-wait none_left (decided (ltb made budget)))
+  stops h over = finished h (⊎_elim none-wait none_left (decided (eqb budget 0 || ltb made budget)))
     where
-      none-wait : ltb made budget ≡ true → places (budget - made) (live n) ≡ []
+      none-wait : (eqb budget 0 || ltb made budget) ≡ true → places_within (allowed - made) (live n) ≡ []
       none-wait t =
           let empty : n.waiting ≤ 0 = ltb-false 0 n.waiting (rw t at over) in
-          places-none (budget - made) (live n) (messages-length n u.arrays u.well_formed ∙ omega arith)
+          places-none (allowed - made) (live n) (messages-length n u.arrays u.well_formed ∙ omega arith)
 
-      none_left : ltb made budget ≡ false → places (budget - made) (live n) ≡ []
-      none_left f = let spent : budget - made ≡ 0 = omega (arith, ltb-false made budget f) in ap (λ k. places k (live n)) spent
+      none_left : (eqb budget 0 || ltb made budget) ≡ false → places_within (allowed - made) (live n) ≡ []
+      none_left f =
+          let (zero-not, over-budget) = neither (eqb budget 0) (ltb made budget) f in
+          let limits = limit-of budget (live start) (eqb-false budget 0 zero-not) in
+          let spent : allowed - made ≡ 0 = omega (arith, limits, ltb-false made budget over-budget) in
+          ap (λ k. places_within k (live n)) spent

@@ -1,8 +1,8 @@
 -- Calls on the arrays follow the calls on the lists step by step, from the empty network on; a
 -- network that is not well formed comes back with 6, and a refused call hands back the very
 -- network. A drain leads where its deliveries lead as calls, so what holds after every list of
--- calls holds after a drain. What they post, grant and deny adds up as it does for the lists.
--- Assumes nothing.
+-- calls holds after a drain; one with no limit leaves nothing waiting. What they post, grant and
+-- deny adds up as it does for the lists. Assumes nothing.
 use mathlib.Core.Path.{◌≡◌, refl, sym, ap, subst, ◌∙◌}
 use mathlib.Core.Logic.{⊎_elim}
 use mathlib.Core.Bool.{true, false}
@@ -17,20 +17,21 @@ use Rattle.protocol.specs.declared.Call.{Call}
 use Rattle.protocol.specs.declared.Call.TheVariants.{Deliver}
 use Rattle.protocol.specs.declared.Reply.{Reply}
 use Rattle.protocol.specs.declared.Reply.TheVariants.{Ran}
-use Rattle.protocol.specs.State.{State, status_at, well_formed as lists_are_well_formed}
+use Rattle.protocol.specs.State.{State, status_at, requests, well_formed as lists_are_well_formed}
 use Rattle.protocol.specs.Calls.{refused as lists_refused, apply_of as apply_to_lists}
 use Rattle.protocol.specs.History.{History, start, advanced, run as run_lists, history}
-use Rattle.protocol.specs.Claim.{requests, Settled}
+use Rattle.protocol.specs.Claim.{Settled}
 use Rattle.protocol.specs.Drain.{places, drained as drained_lists, drain_of as drain_lists}
 use Rattle.protocol.proofs.Lively.{steady}
-use Rattle.protocol.proofs.Drains.{nothing_left, deliveries_are_calls}
+use Rattle.protocol.proofs.Drains.{nothing_left, unlimited, deliveries_are_calls}
 use Rattle.protocol.proofs.Theorem.{ring}
 use Rattle.protocol.proofs.Posted.{refused-same as lists-refused-same, drain_refused_same as drain-lists-refused-same}
 use Rattle.network.specs.declared.Network.{Network}
 use Rattle.network.specs.Arrays.{live, well_formed, held, empty}
 use Rattle.network.proofs.Lengths.{Lengths}
-use Rattle.network.proofs.ArrayLaws.{live-held, held_well_formed, held-live}
+use Rattle.network.proofs.ArrayLaws.{well-formed, live-held, held_well_formed, held-live}
 use Rattle.engine.specs.Outcomes.{Applied, refused, in_arrays, apply_of, drain_of, run}
+use Rattle.engine.specs.Emptied.{EmptiedClaim}
 use Rattle.engine.specs.Accounts.{sum_of, posts_in, grants_in, denials_in, ArraysClaim}
 
 -- ---- 6: a network that is not well formed comes back as it is
@@ -122,6 +123,15 @@ after_calls calls =
 drain_held : (s : State) (budget : ℕ) → lists_are_well_formed s ≡ true → drain_of (held s) budget ≡ in_arrays (drained_lists s (places budget s))
 unfolding drain_of drain_lists
 drain_held s budget h = rw (held_well_formed s h, live-held s, h)
+
+-- one with no limit leaves nothing waiting
+pub emptied : EmptiedClaim
+unfolding drain_of drain_lists
+emptied n w =
+    let h = is_true (well_formed n) w in
+    let lists = (well-formed n h).lists in
+    let u = unlimited (live n) (holds lists) in
+    record { nothing_waits = rw (h, lists, u.nothing_waits); made = length (places 0 (live n)); said = rw (h, lists, u.nothing_waits); within_load = u.within_load }
 
 module _ (calls : List Call) (budget : ℕ) where
   -- the network that the calls make, drained

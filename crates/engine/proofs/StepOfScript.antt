@@ -68,6 +68,7 @@ allowed n h (Err r) = tt
 allowed n h (Ok (task.Call call)) = h
 allowed n h (Ok (task.Owner start serial)) = h
 allowed n h (Ok (task.Drain budget)) = h
+allowed n h (Ok task.Peek) = h
 
 -- what a record's line and its end leave, beside the network
 abbrev pub Left : (p r : Progress) (after : ℕ) (x : Counted) (text buffer : List ℕ) → Type 0

@@ -13,20 +13,21 @@ use lib.Dec.{ltb}
 use borrow.Author.Tests.{ltb-true, ltb-false, lt-ltb, le-ltb}
 use Rattle.predicates.proofs.TestLaws.{decided}
 use Rattle.refusal.specs.Code.{Reason, plain}
-use Rattle.refusal.specs.Rules.{Coded, no, ◌when◌, first, unless_refused}
+use Rattle.refusal.specs.Rules.{Coded, done, no, ◌when◌, first, unless_refused}
 use Rattle.serial.specs.declared.SerialError.{SerialError}
 use Rattle.serial.specs.declared.SerialError.TheVariants.{BadDigit, TooLarge}
 use Rattle.serial.specs.Serial.{coded}
 use Rattle.protocol.specs.declared.Reply.{Reply}
+use Rattle.protocol.specs.declared.Reply.TheVariants.{Ran}
 use Rattle.protocol.specs.Answer.{answered}
 use Rattle.protocol.specs.State.{State, declared, well_formed as lists_are_well_formed}
 use Rattle.protocol.specs.Calls.{refused as lists_refused}
-use Rattle.protocol.specs.Questions.{owner_of as owner_in_lists}
+use Rattle.protocol.specs.Questions.{peek_of as peek_in_lists, owner_of as owner_in_lists}
 use Rattle.network.specs.declared.Network.{Network}
 use Rattle.network.specs.Arrays.{live, well_formed, held}
 use Rattle.network.proofs.Lengths.{Lengths}
 use Rattle.network.proofs.ArrayLaws.{well-formed, held-live}
-use Rattle.network.proofs.LiveLaws.{nodes-length}
+use Rattle.network.proofs.LiveLaws.{nodes-length, messages-length}
 use Rattle.owners.specs.Owners.{owner_asked}
 use Rattle.owners.proofs.QuestionLaws.{owner-live}
 use Rattle.script.specs.declared.Record.{Record}
@@ -105,6 +106,22 @@ module _ (n : Network) (l : Lengths n) (h : well_formed n ≡ true) where
     pub owner-told : (serial : Result ℕ SerialError) (r : Report) → answered r.answer ≡ owner_asked n start serial → r.posted ≡ 0 → Reports (execute_of n (asks.Owner start serial)) r n
     owner-told serial r says none-posted = told_so n r (says ∙ owner-executed serial) none-posted ∙ ap counted (sym (owner-leaves serial))
 
+  -- ---- how many messages wait, as a record asks it
+  pub peeked : peek_in_lists (live n) ≡ done (Ran 0 n.waiting)
+  unfolding peek_in_lists
+  peeked = rw ((well-formed n h).lists, messages-length n l h)
+
+  peek-executed : (execute_of n asks.Peek).said ≡ done (Ran 0 n.waiting)
+  unfolding execute_of execute_on_lists
+  peek-executed = rw (h, (well-formed n h).lists) peeked
+
+  peek-leaves : execute_of n asks.Peek ≡ record { network = n; posts = []; said = (execute_of n asks.Peek).said }
+  unfolding execute_of execute_on_lists
+  peek-leaves = rw h (quiet (live n) same (first ((6 when not (lists_are_well_formed (live n))) ∷ [])) (peek_in_lists (live n)))
+
+  pub peek-told : (r : Report) → answered r.answer ≡ done (Ran 0 n.waiting) → r.posted ≡ 0 → Reports (execute_of n asks.Peek) r n
+  peek-told r says none-posted = told_so n r (says ∙ sym peek-executed) none-posted ∙ ap counted (sym peek-leaves)
+
   -- ---- a record is its task
   pub task-done : (asked : Record) → counted (done_on n (task_of asked)) ≡ counted (execute_of n asked)
   unfolding execute_of execute_on_lists apply_of drain_of
@@ -114,3 +131,4 @@ module _ (n : Network) (l : Lengths n) (h : well_formed n ≡ true) where
   task-done (asks.Declare (Err TooLarge)) = rw (h, (well-formed n h).lists, same)
   task-done (asks.Owner start serial) = refl
   task-done (asks.Drain budget) = rw (h, (well-formed n h).lists)
+  task-done asks.Peek = refl

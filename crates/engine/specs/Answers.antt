@@ -4,11 +4,15 @@ use Rattle.std.specs.Prelude.{ℕ, cond}
 use Rattle.refusal.specs.Code.{plain}
 use Rattle.refusal.specs.Rules.{Coded, no}
 use Rattle.protocol.specs.declared.Reply.{Reply}
-use Rattle.protocol.specs.Questions.{inserted_of as inserted_in_lists, owner_of as owner_in_lists}
+use Rattle.protocol.specs.Questions.{peek_of as peek_in_lists, inserted_of as inserted_in_lists, owner_of as owner_in_lists}
 use Rattle.network.specs.declared.Network.{Network}
 use Rattle.network.specs.Arrays.{live, well_formed}
 
--- R6.11: who is inserted; refusal 6 of a network that is not well formed
+-- R8.5: how many messages wait; refusal 6 of a network that is not well formed
+unfoldable pub peek_of : Network → Coded Reply
+peek_of n = cond (well_formed n) (peek_in_lists (live n)) (no (plain 6))
+
+-- R6.11: who is inserted
 unfoldable pub inserted_of : Network → Coded Reply
 inserted_of n = cond (well_formed n) (inserted_in_lists (live n)) (no (plain 6))
 

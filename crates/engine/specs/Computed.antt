@@ -30,9 +30,11 @@ done_on n (Err r) = refused n (reason r)
 done_on n (Ok (task.Call call)) = apply_of n call
 done_on n (Ok (task.Owner start serial)) = execute_of n (record'.Owner start serial)
 done_on n (Ok (task.Drain budget)) = drain_of n budget
+done_on n (Ok task.Peek) = execute_of n record'.Peek
 
 abbrev pub Allowed : Network → Result Task Refusal → Type 0
 Allowed n (Err r) = Unit {0}
 Allowed n (Ok (task.Call call)) = well_formed n ≡ true
 Allowed n (Ok (task.Owner start serial)) = well_formed n ≡ true
 Allowed n (Ok (task.Drain budget)) = well_formed n ≡ true
+Allowed n (Ok task.Peek) = well_formed n ≡ true

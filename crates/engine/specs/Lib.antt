@@ -4,3 +4,4 @@ pub mod InArrays
 pub mod Computed
 pub mod Reached
 pub mod Accounts
+pub mod Emptied

@@ -85,5 +85,9 @@ pub(crate) fn execute(network: &mut Network, task: Result<Task, Refusal>) -> Rep
             Report::told(owners::owner_of_record(network, start, serial))
         }
         Task::Drain(budget) => drain(network, budget),
+        Task::Peek => {
+            sizes(network);
+            Tally::default().ran(network.waiting)
+        }
     }
 }

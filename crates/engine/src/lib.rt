@@ -17,7 +17,7 @@ mod questions;
 pub use calls::{act, apply};
 pub use drains::{drain, drain_in_place};
 pub use printing::{SIZE_LIMIT, TEXT_SIZE, printout};
-pub use questions::{inserted, owner};
+pub use questions::{inserted, owner, peek};
 
 /// What a call or a drain by value hands back: the network as it leaves it, and what is told.
 #[derive(Clone, Copy)]

@@ -1,7 +1,7 @@
 //! A script from its bytes to its printout: the records one after the other from the empty network,
 //! which is kept in a local and changed where it lies, a line for each. `step` has a reference to
-//! what is kept, and `run` makes it. The printout grows on a page that no script fills: a record
-//! has three bytes at least, and its line has forty at most.
+//! what is kept, and `run` makes it. The printout grows on a page that no script fills: forty bytes
+//! are room enough for the lines of three bytes of a script.
 ghost use Rattle.std.specs.Prelude.{◌+◌, ◌≤◌, ◌<◌, length, true, ◌≡◌};
 ghost use Rattle.network.specs.Arrays.{empty, well_formed};
 ghost use Rattle.printout.specs.Lines.{heading};
@@ -17,8 +17,8 @@ use text::Page;
 /// R9.1: how long a script may be.
 pub const SIZE_LIMIT: usize = 65_536;
 
-/// How many bytes the text of a printout has room for: a record has three bytes at least, and its
-/// line forty at most.
+/// How many bytes the text of a printout has room for, forty for three bytes of a script: a record
+/// has three bytes at least, and its line forty at most; but PK has two, and its line 26 at most.
 pub const TEXT_SIZE: usize = 874_000;
 
 // What a run keeps from record to record: what the program will keep beside the network belongs

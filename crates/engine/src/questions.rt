@@ -1,12 +1,24 @@
-//! What any network is asked without being changed: who is inserted (R6.11), and which node owns a
-//! serial (R7.3).
+//! What any network is asked without being changed: how many messages wait (R8.5), who is inserted
+//! (R6.11), and which node owns a serial (R7.3).
 ghost use Rattle.std.specs.Prelude.{◌≡◌};
 ghost use Rattle.protocol.specs.Answer.{answered};
-ghost use Rattle.engine.specs.Answers.{inserted_of, owner_of};
+ghost use Rattle.engine.specs.Answers.{peek_of, inserted_of, owner_of};
 
 use network::Network;
 use protocol::Answer;
 use refusal::Refusal;
+use report::Tally;
+
+/// How many messages wait, told as by a drain that makes no delivery.
+pub fn peek(network: Network) -> Answer
+    ensures { answered result ≡ peek_of network }
+{
+    let told = Tally::default().ran(network.waiting);
+    network
+        .is_well_formed()
+        .then_some(told.answer)
+        .unwrap_or(Err(Refusal::Malformed))
+}
 
 /// Who is inserted: one word, bit n for node n, and how many they are.
 pub fn inserted(network: Network) -> Answer

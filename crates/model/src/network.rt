@@ -288,12 +288,23 @@ impl Network {
         self.deliver(place).is_ok()
     }
 
-    pub(crate) fn drain(&mut self, budget: u16) -> Answer {
-        let deliveries = (0..budget).take_while(|_| self.deliver_lowest()).count();
+    // What a drain says that has made so many deliveries.
+    fn ran(&self, deliveries: usize) -> Answer {
         Answer::Ran {
             deliveries,
             left: self.messages.len(),
         }
+    }
+
+    // A budget of 0 is no limit: there are never as many deliveries as two bytes can count.
+    pub(crate) fn drain(&mut self, budget: u16) -> Answer {
+        let allowed = if budget == 0 { u16::MAX } else { budget };
+        let deliveries = (0..allowed).take_while(|_| self.deliver_lowest()).count();
+        self.ran(deliveries)
+    }
+
+    pub(crate) fn peek(&self) -> Answer {
+        self.ran(0)
     }
 
     /// The owner of a serial, and how many hops lead to it from a start.

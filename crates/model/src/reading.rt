@@ -79,6 +79,7 @@ impl Player {
                 return network.owner(network.declared(start)?, serial.value()?);
             }
             Record::Drain { budget } => return Ok(network.drain(budget)),
+            Record::Peek => return Ok(network.peek()),
         };
         Ok(network.take(step).into())
     }

@@ -15,6 +15,7 @@ pub enum Mark {
     Oc,
     On,
     Rd,
+    Pk,
 }
 
 impl Mark {
@@ -29,6 +30,7 @@ impl Mark {
             Mark::Oc => "OC",
             Mark::On => "ON",
             Mark::Rd => "RD",
+            Mark::Pk => "PK",
         }
     }
 }
@@ -53,6 +55,7 @@ impl TryFrom<[u8; 2]> for Mark {
             b"OC" => Ok(Mark::Oc),
             b"ON" => Ok(Mark::On),
             b"RD" => Ok(Mark::Rd),
+            b"PK" => Ok(Mark::Pk),
             _ => Err(Refusal::UnknownMark),
         }
     }
@@ -116,6 +119,7 @@ pub enum Record {
     Deliver { place: u8 },
     Owner { start: u8, serial: Serial },
     Drain { budget: u16 },
+    Peek,
 }
 
 impl Record {
@@ -139,6 +143,7 @@ impl Record {
             (Mark::Rd, &[low, high]) => Some(Record::Drain {
                 budget: u16::from_le_bytes([low, high]),
             }),
+            (Mark::Pk, &[]) => Some(Record::Peek),
             _ => None,
         }
     }
@@ -160,6 +165,7 @@ impl Record {
                 ..
             } => Mark::On,
             Record::Drain { .. } => Mark::Rd,
+            Record::Peek => Mark::Pk,
         }
     }
 
@@ -180,6 +186,7 @@ impl Record {
                 put(&serial.bytes())
             }
             Record::Drain { budget } => put(&budget.to_le_bytes()),
+            Record::Peek => Ok(()),
         }
     }
 }

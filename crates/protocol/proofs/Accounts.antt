@@ -16,10 +16,10 @@ use Rattle.parts.specs.declared.Message.{Message}
 use Rattle.parts.specs.Tests.{is_request}
 use Rattle.node.specs.Actions.{set_r, set_r_ack, set_r_nak, set_l}
 use Rattle.protocol.specs.declared.Call.{Call}
-use Rattle.protocol.specs.State.{State, node_at, status_at, is_exchange_of, exchanges}
+use Rattle.protocol.specs.State.{State, node_at, status_at, is_exchange_of, requests, exchanges}
 use Rattle.protocol.specs.Calls.{Result}
 use Rattle.protocol.specs.Answer.{is_granted, is_denied, says}
-use Rattle.protocol.specs.Claim.{requests, posted_for, Settled}
+use Rattle.protocol.specs.Claim.{posted_for, Settled}
 use Rattle.protocol.proofs.Waiting.{Taken}
 use Rattle.protocol.proofs.Frames.{settled_in, settled_out}
 use Rattle.protocol.proofs.Changes.{Act, drops, lets_in, lets_go, denies, joins, goes, stays_out, stays_in, takes, ignores}

@@ -1,28 +1,33 @@
 -- None of a drain's deliveries is refused, it goes on while a message waits and its budget allows,
 -- and it leads where these deliveries lead as calls. While a message waits in a well-formed network
--- some delivery is not refused, so the search for the lowest place finds one; and each delivery
--- leaves the network well formed. Assumes nothing.
+-- some delivery is not refused, so the search for the lowest place finds one; each delivery leaves
+-- the network well formed, and lowers the load. So as many deliveries as the load are enough, and a
+-- drain that may make them ends where nothing waits. Assumes nothing.
 use mathlib.Core.Path.{◌≡◌, refl, sym, ap, ◌∙◌}
 use mathlib.Core.Logic.{⊎_elim, ◌≢◌}
 use mathlib.Core.Bool.{Bool, true, false, and-false}
 use mathlib.Core.List.{List, [], ◌∷◌, ◌++◌, map}
-use Rattle.std.specs.Prelude.{Some}
-use Prim.Native.Nat.{ℕ, zero, suc, ◌+◌, ◌≤◌, ◌<◌}
+use Rattle.std.specs.Prelude.{Option, None, Some}
+use Prim.Native.Nat.{ℕ, zero, suc, ◌+◌, ◌*◌, ◌≤◌, ◌<◌}
 use native.Mathlib.Omega.{arith}
-use native.Mathlib.Nat.{eq-or-lt_of_le, eq-zero-or-pos}
+use native.Mathlib.Nat.{zero-add, suc-add, eq-or-lt_of_le, eq-zero-or-pos}
 use lib.ListN.{length}
 use lib.Dec.{T, ltb}
-use borrow.Author.Tests.{ltb-true}
+use borrow.Author.Tests.{ltb-true, ltb-false}
 use Rattle.predicates.proofs.TestLaws.{decided, is_true, not-both, bit-true}
 use Rattle.protocol.specs.declared.Call.{Call}
 use Rattle.protocol.specs.declared.Call.TheVariants.{Deliver}
-use Rattle.protocol.specs.State.{State, well_formed}
+use Rattle.parts.specs.declared.Message.{Message}
+use Rattle.parts.specs.Tests.{is_request}
+use Rattle.protocol.specs.State.{State, load, well_formed}
 use Rattle.protocol.specs.Calls.{is_full, apply_of}
 use Rattle.protocol.specs.History.{History, start, advanced, run, history}
 use Rattle.protocol.specs.Answer.{accepted}
-use Rattle.protocol.specs.Drain.{lowest_from, lowest, after_delivery, places, deliver_all, posts_of_all, drained, drain_of}
-use Rattle.protocol.specs.FurtherClaims.{Drains, DrainClaim, DrainIsCalls}
-use Rattle.protocol.proofs.Lively.{steady}
+use Rattle.protocol.specs.Drain.{lowest_from, lowest, after_delivery, places_from, places_within, places, deliver_all, posts_of_all, drained, drain_of}
+use Rattle.protocol.specs.FurtherClaims.{DrainClaim, Unlimited, UnlimitedClaim, DrainIsCalls}
+use Rattle.protocol.specs.Claim.{delivered}
+use Rattle.protocol.proofs.Facts.{well-formed}
+use Rattle.protocol.proofs.Lively.{count-all, lowers, steady}
 use Rattle.protocol.proofs.Posted.{posts-of-all}
 use Rattle.protocol.proofs.Theorem.{ring}
 
@@ -69,19 +74,19 @@ search_ends s (suc k) from q above below can =
 pub lowest-at : (s : State) (place : ℕ) → place < length s.messages → ((q : ℕ) → q < place → can_deliver s q ≡ false) → can_deliver s place ≡ true → lowest s ≡ Some place
 lowest-at s place waits before can = lowest-from s (length s.messages) 0 place (omega arith) (omega arith) (λ q _ l. before q l) can
 
-pub some-lowest : (s : State) → T (well_formed s) → 0 < length s.messages → (place : ℕ) × (place < length s.messages) × T (can_deliver s place)
+some-lowest : (s : State) → T (well_formed s) → 0 < length s.messages → (place : ℕ) × (place < length s.messages) × T (can_deliver s place)
 some-lowest s w some-wait = let (place, can) = (steady s w).lively.progress some-wait in (place, waits_there s place w (is_true _ can), can)
 
-finds-lowest : (s : State) → T (well_formed s) → 0 < length s.messages → (place : ℕ) × (lowest s ≡ Some place) × (can_deliver s place ≡ true)
+pub finds-lowest : (s : State) → T (well_formed s) → 0 < length s.messages → (place : ℕ) × (lowest s ≡ Some place) × (can_deliver s place ≡ true)
 finds-lowest s w some-wait = let (q, waits, can) = some-lowest s w some-wait in search_ends s (length s.messages) 0 q (omega arith) (omega arith) (is_true _ can)
 
 -- ---- the places of a drain
-pub places-none : (budget : ℕ) (s : State) → length s.messages ≡ 0 → places budget s ≡ []
+pub places-none : (allowed : ℕ) (s : State) → length s.messages ≡ 0 → places_within allowed s ≡ []
 places-none zero s e = refl
-places-none (suc budget) s e = rw e
+places-none (suc allowed) s e = rw e
 
-pub places-next : (budget : ℕ) (s : State) (place : ℕ) → lowest s ≡ Some place → places (suc budget) s ≡ place ∷ places budget (after_delivery s place)
-places-next budget s place e = rw e
+pub places-next : (allowed : ℕ) (s : State) (place : ℕ) → lowest s ≡ Some place → places_within (suc allowed) s ≡ place ∷ places_within allowed (after_delivery s place)
+places-next allowed s place e = rw e
 
 -- ---- what a drain comes to
 pub drain_is : (s : State) (budget : ℕ) → T (well_formed s) → drain_of s budget ≡ drained s (places budget s)
@@ -92,28 +97,87 @@ pub nothing_left : {A : Type 0} (l : List A) → length l ≡ 0 → l ≡ []
 nothing_left [] e = refl
 nothing_left (x ∷ l) e = absurd (omega arith)
 
-nothing_to_drain : (s : State) → T (well_formed s) → (budget : ℕ) → length s.messages ≡ 0 → Drains s budget
-nothing_to_drain s w budget e =
-    let made : places budget s ≡ [] = places-none budget s e in
-    record { result = drain_is s budget w; within_budget = rw made (omega arith); none_refused = rw made; to_the_end = λ _. rw made (nothing_left s.messages e) }
+-- ---- at most so many deliveries
+-- each message adds one to the load at least, and three at most
+pub load-of-all : (ms : List Message) → (length ms ≤ load ms) × (load ms ≤ 3 * length ms)
+load-of-all ms = let all = count-all (λ (m : Message). is_request m.kind) ms in (omega (arith, all), omega (arith, all))
 
-one_more : (s : State) → T (well_formed s) → (budget place : ℕ) → lowest s ≡ Some place → can_deliver s place ≡ true → Drains (after_delivery s place) budget → Drains s (suc budget)
-one_more s w budget place e can d =
-    let next = places-next budget s place e in
+record Makes (s : State) (allowed : ℕ) : Type 0 where
+  within : length (places_within allowed s) ≤ allowed
+  none_refused : delivered s (places_within allowed s) ≡ length (places_within allowed s)
+  to_the_end : length (places_within allowed s) < allowed → (deliver_all s (places_within allowed s)).messages ≡ []
+  lowered : load (deliver_all s (places_within allowed s)).messages + length (places_within allowed s) ≤ load s.messages
+
+makes_none : (s : State) (allowed : ℕ) → length s.messages ≡ 0 → Makes s allowed
+makes_none s allowed e =
+    let made = places-none allowed s e in
+    record { within = rw made (omega arith); none_refused = rw made; to_the_end = λ _. rw made (nothing_left s.messages e); lowered = rw made (omega arith) }
+
+one_more : (s : State) (allowed place : ℕ) → lowest s ≡ Some place → can_deliver s place ≡ true → Makes (after_delivery s place) allowed → Makes s (suc allowed)
+one_more s allowed place e can m =
+    let next = places-next allowed s place e in
     record {
-      result = drain_is s (suc budget) w;
-      within_budget = rw next (omega arith);
-      none_refused = rw next (omega (arith, bit-true can));
-      to_the_end = λ l. rw next (d.to_the_end (omega (arith, ap length next)));
+      within = rw next (omega (arith, m.within));
+      none_refused = rw next (omega (arith, bit-true can, m.none_refused));
+      to_the_end = λ l. rw next (m.to_the_end (omega (arith, ap length next)));
+      lowered = rw next (omega (arith, bit-true can, lowers s place, m.lowered));
     }
 
-pub drains : DrainClaim
-drains s w zero = record { result = drain_is s zero w; within_budget = omega arith; none_refused = refl; to_the_end = λ l. absurd (omega arith) }
-drains s w (suc budget) =
+makes : (s : State) → T (well_formed s) → (allowed : ℕ) → Makes s allowed
+makes s w zero = record { within = omega arith; none_refused = refl; to_the_end = λ l. absurd (omega arith); lowered = omega arith }
+makes s w (suc allowed) =
     ⊎_elim
-    (nothing_to_drain s w (suc budget))
-    (λ some-wait. let (place, e, can) = finds-lowest s w some-wait in one_more s w budget place e can (drains (after_delivery s place) ((steady s w).kept (Deliver place)) budget))
+    (makes_none s (suc allowed))
+    (λ some-wait. let (place, e, can) = finds-lowest s w some-wait in one_more s allowed place e can (makes (after_delivery s place) ((steady s w).kept (Deliver place)) allowed))
     (eq-zero-or-pos (length s.messages))
+
+pub drains : DrainClaim
+drains s w zero = record { result = drain_is s zero w; within_budget = λ d. absurd (d refl); none_refused = (makes s w (load s.messages)).none_refused; to_the_end = λ l. absurd (omega arith) }
+drains s w (suc budget) = let m = makes s w (suc budget) in record { result = drain_is s (suc budget) w; within_budget = λ _. m.within; none_refused = m.none_refused; to_the_end = m.to_the_end }
+
+-- ---- with no limit
+-- where nothing waits at the end, it is the same however many more deliveries are allowed
+enough : (allowed more : ℕ) (s : State) → (deliver_all s (places_within allowed s)).messages ≡ [] → places_within (allowed + more) s ≡ places_within allowed s
+enough zero more s e = ap (λ k. places_within k s) (zero-add more) ∙ places-none more s (ap length e)
+enough (suc allowed) more s e = ap (λ k. places_within k s) (suc-add allowed more) ∙ go (enough allowed more) (lowest s) e
+  where
+    go : ((s : State) → (deliver_all s (places_within allowed s)).messages ≡ [] → places_within (allowed + more) s ≡ places_within allowed s)
+        → (o : Option ℕ) → (deliver_all s (places_from (places_within allowed) s o)).messages ≡ []
+        → places_from (places_within (allowed + more)) s o ≡ places_from (places_within allowed) s o
+    go then None e = refl
+    go then (Some place) e = ap (λ l. place ∷ l) (then (after_delivery s place) e)
+
+module _ (s : State) (w : T (well_formed s)) where
+  abbrev end : State
+  end = deliver_all s (places 0 s)
+
+  all-made : Makes s (load s.messages)
+  all-made = makes s w (load s.messages)
+
+  few : length s.messages ≤ 64
+  few = (well-formed s (is_true _ w)).few_messages
+
+  -- as many deliveries as the load leave none of it
+  none_left : load s.messages ≤ length (places 0 s) → length end.messages ≡ 0
+  none_left all = omega (arith, all-made.lowered, (load-of-all end.messages).0)
+
+  nothing : end.messages ≡ []
+  nothing =
+      ⊎_elim
+      (λ t. all-made.to_the_end (ltb-true _ _ t))
+      (λ f. nothing_left end.messages (none_left (ltb-false _ _ f)))
+      (decided (ltb (length (places 0 s)) (load s.messages)))
+
+  of-zero : Unlimited s
+  of-zero = record {
+    nothing_waits = nothing;
+    within_load = all-made.within;
+    count_fits = omega (arith, all-made.within, (load-of-all s.messages).1, few);
+    no_limit = λ more. enough (load s.messages) more s nothing;
+  }
+
+pub unlimited : UnlimitedClaim
+unlimited s w = of-zero s w
 
 -- ---- its deliveries as calls
 pub run_append : (h : History) (calls more : List Call) → run h (calls ++ more) ≡ run (run h calls) more

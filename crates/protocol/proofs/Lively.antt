@@ -27,11 +27,11 @@ use Rattle.node.specs.Actions.{set_r, set_r_ack, set_r_nak, set_l, would_grant}
 use Rattle.node.proofs.FitLaws.{message-facts}
 use Rattle.protocol.specs.declared.Call.{Call}
 use Rattle.protocol.specs.declared.Call.TheVariants.{Deliver}
-use Rattle.protocol.specs.State.{State, queue_limit, node_at, status_at, is_exchange_of, well_formed}
+use Rattle.protocol.specs.State.{State, queue_limit, node_at, status_at, is_exchange_of, load, well_formed}
 use Rattle.parts.specs.Tests.{is_request}
 use Rattle.protocol.specs.Calls.{Result, is_full, message_at, is_grantable, apply_of}
 use Rattle.protocol.specs.Answer.{accepted}
-use Rattle.protocol.specs.Claim.{Delivers, delivered, load, Lively, SteadyClaim}
+use Rattle.protocol.specs.Claim.{Delivers, delivered, Lively, SteadyClaim}
 use Rattle.protocol.proofs.Waiting.{exchanges-most, Taken}
 use Rattle.protocol.proofs.Facts.{WellFormed, well-formed, tested}
 use Rattle.protocol.proofs.Changes.{Act, drops, lets_in, lets_go, denies, joins, goes, stays_out, stays_in, takes, ignores}
@@ -66,7 +66,7 @@ replied : {ms rest : List Message} {v p new e : ℕ} {n : Number} → Taken ms (
 replied {rest} t posts few = omega (arith, load-taken t, load_append rest posts)
 
 -- the load falls by one at least, or nothing was accepted and it does not rise
-abbrev Lowers : State → Result → Type 0
+abbrev pub Lowers : State → Result → Type 0
 Lowers s r = bit (accepted r.said) + load r.state.messages ≤ load s.messages
 
 act_lowers : {s : State} {m : Message} {rest : List Message} {r : Result} → Taken s.messages m rest → Act s m rest r → Lowers s r
@@ -185,9 +185,12 @@ progress s w h = ⊎_elim with-room full (decided (ltb (length s.messages) queue
         (place, not-refused w waits (rw (e, not-grantable (node_at s m.to) m.sender m.kind (not-true _ other))))
 
 -- ---- so every well-formed network is steady
+pub lowers : (s : State) (place : ℕ) → Lowers s (apply_of s (Deliver place))
+lowers s place = deliver_lowers (change s (Deliver place))
+
 pub bound : (s : State) (places : List ℕ) → delivered s places ≤ load s.messages
 bound s [] = omega arith
-bound s (place ∷ places) = omega (arith, deliver_lowers (change s (Deliver place)), bound (apply_of s (Deliver place)).state places)
+bound s (place ∷ places) = omega (arith, lowers s place, bound (apply_of s (Deliver place)).state places)
 
 pub lively : (s : State) → WellFormed s → Lively s
 lively s w = record { progress = progress s w; bound = bound s }

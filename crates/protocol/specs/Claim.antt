@@ -1,15 +1,14 @@
 -- The claim over lists (docs/RULES.md, section 10): what holds after any list of calls from the
 -- empty network. It is stated here in full, and cites no proof. Definitions only.
-use Rattle.std.specs.Prelude.{ℕ, ◌+◌, ◌*◌, ◌<◌, ◌≤◌, ◌≡◌, ◌≢◌, false, not, List, [], ◌∷◌, length, T, Some}
-use Rattle.predicates.specs.Tests.{bit, count}
+use Rattle.std.specs.Prelude.{ℕ, ◌+◌, ◌*◌, ◌<◌, ◌≤◌, ◌≡◌, ◌≢◌, false, List, [], ◌∷◌, length, T, Some}
+use Rattle.predicates.specs.Tests.{bit}
 use Rattle.links.specs.Walk.{Circuit, Predecessor}
 use Rattle.parts.specs.declared.Status.{Status}
 use Rattle.parts.specs.declared.Status.TheVariants.{Ins, Del}
 use Rattle.parts.specs.declared.Message.{Message}
 use Rattle.protocol.specs.declared.Call.{Call}
 use Rattle.protocol.specs.declared.Call.TheVariants.{Deliver}
-use Rattle.protocol.specs.State.{State, status_at, key_at, left_at, right_at, notice_waits, well_formed, numbers_fit, inserted}
-use Rattle.parts.specs.Tests.{is_request}
+use Rattle.protocol.specs.State.{State, status_at, key_at, left_at, right_at, notice_waits, well_formed, requests, load, numbers_fit, inserted}
 use Rattle.protocol.specs.Calls.{apply_of}
 use Rattle.protocol.specs.History.{History, history}
 use Rattle.protocol.specs.Answer.{accepted}
@@ -28,14 +27,6 @@ Delivers s place = T (accepted (apply_of s (Deliver place)).said)
 abbrev pub delivered : State → List ℕ → ℕ
 delivered s [] = 0
 delivered s (place ∷ places) = bit (accepted (apply_of s (Deliver place)).said) + delivered (apply_of s (Deliver place)).state places
-
--- R10.9, R10.16: how many SetR are among messages
-abbrev pub requests : List Message → ℕ
-requests ms = count (λ m. is_request m.kind) ms
-
--- R10.9: three for each SetR and one for each other message
-abbrev pub load : List Message → ℕ
-load ms = 3 * requests ms + count (λ m. not (is_request m.kind)) ms
 
 -- ---- R10.13: what holds of every well-formed network, ring or not
 pub record Lively (s : State) : Type 0 where

@@ -1,12 +1,12 @@
 -- A drain of a network (paper 01: run down; docs/RULES.md, section 8): deliveries one after the
 -- other, each at the lowest place where one is not refused, until nothing waits or a budget is
--- spent. Definitions only.
+-- spent; a budget of 0 is no limit. Definitions only.
 use Rattle.std.specs.Prelude.{ℕ, zero, suc, not, cond, List, [], ◌∷◌, ◌++◌, length, Option, None, Some}
 use Rattle.refusal.specs.Rules.{done, ◌when◌, ruled}
 use Rattle.parts.specs.declared.Message.{Message}
 use Rattle.protocol.specs.declared.Call.TheVariants.{Deliver}
 use Rattle.protocol.specs.declared.Reply.TheVariants.{Ran}
-use Rattle.protocol.specs.State.{State, well_formed}
+use Rattle.protocol.specs.State.{State, load, well_formed}
 use Rattle.protocol.specs.Calls.{Result, refused, apply_of}
 use Rattle.protocol.specs.Answer.{accepted}
 
@@ -28,10 +28,20 @@ abbrev pub places_from : (State → List ℕ) → State → Option ℕ → List 
 places_from rest s None = []
 places_from rest s (Some place) = place ∷ rest (after_delivery s place)
 
--- R8.1: the places of the deliveries, in turn, while a message waits and the budget allows
+-- R8.1: the places of at most so many deliveries, in turn, while a message waits
+abbrev pub places_within : ℕ → State → List ℕ
+places_within zero s = []
+places_within (suc more) s = places_from (places_within more) s (lowest s)
+
+-- R8.1: how many deliveries a budget allows. Of 0 no limit is meant: it allows as many as there can
+-- be (R10.9), so that it is the waiting messages that end the drain (R8.4, `UnlimitedClaim`)
+abbrev pub limit : ℕ → State → ℕ
+limit zero s = load s.messages
+limit (suc budget) s = suc budget
+
+-- R8.1: the places of the deliveries of a drain with this budget
 abbrev pub places : ℕ → State → List ℕ
-places zero s = []
-places (suc budget) s = places_from (places budget) s (lowest s)
+places budget s = places_within (limit budget s) s
 
 -- R8.1: the network after deliveries at these places
 abbrev pub deliver_all : State → List ℕ → State

@@ -1,7 +1,7 @@
 -- What the ring means for the questions, what a drain is, what is posted, who waits for an answer,
 -- and what is dropped: claims beside the one over lists, each stated in full and citing no proof.
 -- Definitions only.
-use Rattle.std.specs.Prelude.{ℕ, ◌+◌, ◌<◌, ◌≤◌, ◌≡◌, ◌≢◌, ◌↔◌, Bool, ◌&&◌, cond, List, [], ◌++◌, map, length, ltb, T, Some}
+use Rattle.std.specs.Prelude.{ℕ, ◌+◌, ◌^◌, ◌<◌, ◌≤◌, ◌≡◌, ◌≢◌, ◌↔◌, Bool, ◌&&◌, cond, List, [], ◌++◌, map, length, ltb, T, Some}
 use Rattle.predicates.specs.Tests.{count}
 use Rattle.refusal.specs.Code.{plain}
 use Rattle.refusal.specs.Rules.{Coded, done, no}
@@ -15,13 +15,13 @@ use Rattle.protocol.specs.declared.Call.{Call}
 use Rattle.protocol.specs.declared.Call.TheVariants.{Order, Deliver}
 use Rattle.protocol.specs.declared.Reply.{Reply}
 use Rattle.protocol.specs.declared.Reply.TheVariants.{Stepped, Owner}
-use Rattle.protocol.specs.State.{State, status_at, key_at, right_at, is_exchange_of, exchanges, well_formed}
+use Rattle.protocol.specs.State.{State, status_at, key_at, right_at, is_exchange_of, exchanges, load, well_formed}
 use Rattle.protocol.specs.Calls.{message_at, without, apply_of}
 use Rattle.protocol.specs.Answer.{accepted}
 use Rattle.protocol.specs.History.{history}
 use Rattle.protocol.specs.Claim.{Inserted, delivered}
 use Rattle.protocol.specs.Questions.{owner_of}
-use Rattle.protocol.specs.Drain.{places, deliver_all, drained, drain_of}
+use Rattle.protocol.specs.Drain.{places_within, places, deliver_all, drained, drain_of}
 
 -- ---- the owner of a serial
 -- R7.4: u is inserted, and the serial is in [key, key of right link)
@@ -53,17 +53,31 @@ abbrev pub AlwaysFound : Type 0
 AlwaysFound = (calls : List Call) (start serial : ℕ) → ¬ (owner_of (history calls).state start serial ≡ no (plain 31))
 
 -- ---- a drain
--- R8.1, with this budget: it is its deliveries, no more than the budget, none of them refused, and
--- fewer only where nothing waits at the end
+-- R8.1, with this budget: it is its deliveries, none of them refused; no more than a budget that is
+-- not 0, and fewer than it only where nothing waits at the end
 pub record Drains (s : State) (budget : ℕ) : Type 0 where
   pub result : drain_of s budget ≡ drained s (places budget s)
-  pub within_budget : length (places budget s) ≤ budget
+  pub within_budget : budget ≢ 0 → length (places budget s) ≤ budget
   pub none_refused : delivered s (places budget s) ≡ length (places budget s)
   pub to_the_end : length (places budget s) < budget → (deliver_all s (places budget s)).messages ≡ []
 
 -- R8.1: of every well-formed network, with any budget
 abbrev pub DrainClaim : Type 0
 DrainClaim = (s : State) → T (well_formed s) → (budget : ℕ) → Drains s budget
+
+-- R8.4, with budget 0, which is no limit
+pub record Unlimited (s : State) : Type 0 where
+  -- at the end nothing waits
+  pub nothing_waits : (deliver_all s (places 0 s)).messages ≡ []
+  -- no more deliveries are made than R10.9 allows, and two bytes can count them
+  pub within_load : length (places 0 s) ≤ load s.messages
+  pub count_fits : length (places 0 s) < 2 ^ 16
+  -- however many more were allowed, the same would be made
+  pub no_limit : (more : ℕ) → places_within (load s.messages + more) s ≡ places 0 s
+
+-- R8.4: of every well-formed network
+abbrev pub UnlimitedClaim : Type 0
+UnlimitedClaim = (s : State) → T (well_formed s) → Unlimited s
 
 -- R10.1, a drain counts as its deliveries: it leads where the list of calls leads that has them at
 -- its end, and posts what they post

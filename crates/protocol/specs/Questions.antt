@@ -1,5 +1,5 @@
--- What a network is asked without being changed: who is inserted, and which node owns a serial. A
--- question has its refusals in their order, as a call has. Definitions only.
+-- What a network is asked without being changed: how many messages wait, who is inserted, and which
+-- node owns a serial. A question has its refusals in their order, as a call has. Definitions only.
 use Rattle.std.specs.Prelude.{ℕ, zero, suc, not, cond, List, [], ◌∷◌, length, Some, None}
 use Rattle.predicates.specs.Tests.{count_below, word_below}
 use Rattle.refusal.specs.Code.{plain}
@@ -8,8 +8,13 @@ use Rattle.serial.specs.Serial.{in_range}
 use Rattle.interval.specs.Interval.{within}
 use Rattle.parts.specs.Tests.{Link}
 use Rattle.protocol.specs.declared.Reply.{Reply}
-use Rattle.protocol.specs.declared.Reply.TheVariants.{Owner, Inserted}
+use Rattle.protocol.specs.declared.Reply.TheVariants.{Owner, Ran, Inserted}
 use Rattle.protocol.specs.State.{State, declared, key_at, right_at, well_formed, inserted}
+
+-- ---- how many messages wait
+-- R8.5: told as by a drain that makes no delivery, or 6
+unfoldable pub peek_of : State → Coded Reply
+peek_of s = ruled ((6 when not (well_formed s)) ∷ []) no (done (Ran 0 (length s.messages)))
 
 -- ---- who is inserted
 -- R4.2: bit n for node n

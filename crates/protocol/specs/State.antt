@@ -1,7 +1,7 @@
 -- A network as the lists of its nodes and of its waiting messages (paper 01: a floor), when it is
 -- well formed (in shape), and which of its nodes are inserted. The lists may have any length; the
 -- limits are clauses of well-formedness. Definitions only.
-use Rattle.std.specs.Prelude.{ℕ, Bool, true, false, not, ◌&&◌, ◌||◌, List, [], length, get_or, ltb, leb, eqb}
+use Rattle.std.specs.Prelude.{ℕ, ◌+◌, ◌*◌, Bool, true, false, not, ◌&&◌, ◌||◌, List, [], length, get_or, ltb, leb, eqb}
 use Rattle.predicates.specs.Tests.{count, any, every, every_below}
 use Rattle.sequence.specs.Sequence.{is_seq}
 use Rattle.parts.specs.declared.Status.{Status}
@@ -67,6 +67,15 @@ ack_waits s u = any (is_ack_to u) s.messages
 -- R10.7, refusal 25: a SetL to the node waits
 abbrev pub notice_waits : State → ℕ → Bool
 notice_waits s u = any (is_notice_to u) s.messages
+
+-- ---- what the waiting messages come to
+-- R10.9, R10.16: how many SetR are among messages
+abbrev pub requests : List Message → ℕ
+requests ms = count (λ m. is_request m.kind) ms
+
+-- R10.9, R8.4: three for each SetR and one for each other message
+abbrev pub load : List Message → ℕ
+load ms = 3 * requests ms + count (λ m. not (is_request m.kind)) ms
 
 -- ---- well-formedness
 -- R2.4: the key of a node is not that of a node before it

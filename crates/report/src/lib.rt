@@ -2,7 +2,7 @@
 //! deliveries.
 #![tactic(auto)]
 
-ghost use Rattle.std.specs.Prelude.{◌≡◌, ◌+◌, ◌%◌, ◌^◌, ◌&&◌, nat_lt};
+ghost use Rattle.std.specs.Prelude.{◌≡◌, ◌+◌, ◌%◌, ◌^◌, ◌&&◌, ◌||◌, nat_eq, nat_lt};
 ghost use Rattle.refusal.specs.Code.{reason};
 ghost use Rattle.refusal.specs.Rules.{done, no};
 ghost use Rattle.protocol.specs.declared.Reply.TheVariants.{Ran};
@@ -41,11 +41,11 @@ pub struct Tally {
 }
 
 impl Tally {
-    /// Whether a drain goes on (R8.1), with so many messages waiting.
+    /// Whether a drain goes on (R8.1), with so many messages waiting. A budget of 0 is no limit.
     pub fn goes_on(self, budget: u16, waiting: u8) -> bool
-        ensures { result ≡ (nat_lt self.made budget && nat_lt 0 waiting) }
+        ensures { result ≡ ((nat_eq budget 0 || nat_lt self.made budget) && nat_lt 0 waiting) }
     {
-        (self.made < budget) & (0 < waiting)
+        ((budget == 0) | (self.made < budget)) & (0 < waiting)
     }
 
     /// One delivery more. Counts wrap, so that nothing is asked of the caller; those of a drain

@@ -3,7 +3,7 @@
 use crate::Run;
 use std::io;
 
-pub(crate) const MARKS: [&[u8]; 5] = [
+pub(crate) const MARKS: [&[u8]; 7] = [
     // R9.7, R9.8, R1.8: the first line and the last.
     b"the empty script\n",
     // R9.2, R9.5, refusal 1: the declaration after it is not read.
@@ -17,6 +17,17 @@ pub(crate) const MARKS: [&[u8]; 5] = [
     b"no 2: one byte of a mark\n\
       BC\x00\x00\x10\x00\
       B",
+    // R8.5, R9.2: PK has no fields, and the next mark follows it at once.
+    b"PK alone, and before other records\n\
+      PK\
+      PKPK\
+      BC\x00\x00\x10\x00\
+      PKCR\x00\
+      PK",
+    // R9.5, refusal 2: one byte of PK is too short for a mark.
+    b"no 2: one byte of PK\n\
+      PK\
+      P",
     // R9.5, refusal 2: what is left of the script is too short for the fields.
     b"no 2: a record without its last byte\n\
       BC\x00\x00\x10\x00\

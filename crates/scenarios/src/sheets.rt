@@ -1,6 +1,6 @@
 //! The sheets of the folder `examples`, one record to a line. There each record has a comment that
 //! says what it does, and beside each sheet stands its printout, which is the same.
-pub(crate) const ALL: [&[u8]; 6] = [
+pub(crate) const ALL: [&[u8]; 7] = [
     // R5.5, R5.9, R5.11: node 0 asks to leave before it has heard of its left neighbour, and so
     // asks and denies itself.
     b"paper\n\
@@ -117,6 +117,23 @@ pub(crate) const ALL: [&[u8]; 6] = [
       OC\x02\x00\x00\x35\x00\
       RD\xff\xff\
       OC\x00\x00\x00\x05\x00",
+    // R8.1, R8.4, R8.5: what waits is asked, and all of it delivered; then one message alone.
+    b"shift-start\n\
+      BC\x00\x00\x10\x00\
+      BC\x00\x00\x20\x00\
+      BC\x00\x00\x30\x00\
+      CR\x00\
+      JN\x01\x00\x00\
+      JN\x02\x01\x00\
+      PK\
+      RD\x00\x00\
+      PK\
+      JN\x02\x01\x00\
+      RD\x01\x00\
+      PK\
+      RD\x00\x00\
+      RD\x00\x00\
+      OC\x00\x00\x00\x35\x00",
     // R5.5, R5.9, R5.11, R5.12, R6.9, R7.1, refusals 23 and 29: one of four requests is granted,
     // and messages are delivered out of order.
     b"four-at-once\n\

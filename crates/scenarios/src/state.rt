@@ -127,13 +127,13 @@ const FULL_QUEUES: [&[u8]; 3] = [
     b"no 28: with 64 waiting, a join, a leave, a delivery; a lone node leaves\n\
       JN\x16\x00\x01\
       JN\x17\x00\x01\
-      RD\x00\x00\
+      PK\
       JN\x18\x00\x01\
       LV\x00\
       DL\x3e\
       DL\x01LV\x01\
       DL\x00DL\x3e\
-      RD\x00\x00\
+      PK\
       LV\x00\
       RD\xff\xff\
       JN\x18\x00\x01",
@@ -143,10 +143,10 @@ const FULL_QUEUES: [&[u8]; 3] = [
     b"no 28: with 64 waiting, a request to a node that is out is denied\n\
       JN\x16\x1f\x15\
       JN\x17\x00\x01\
-      RD\x00\x00\
+      PK\
       DL\x3f\
       DL\x3e\
-      RD\x00\x00\
+      PK\
       DL\x3e\
       DL\x3f\
       DL\x3e",
@@ -158,7 +158,7 @@ const FULL_QUEUES: [&[u8]; 3] = [
       JN\x16\x00\x01\
       JN\x17\x00\x01\
       JN\x18\x00\x01\
-      RD\x00\x00\
+      PK\
       CR\x20\
       CR\x14\
       JN\x00\x00\x20\

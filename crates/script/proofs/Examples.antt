@@ -8,7 +8,7 @@ use Rattle.std.specs.Prelude.{Ok, Err}
 use Rattle.serial.specs.declared.SerialError.TheVariants.{BadDigit, TooLarge}
 use Rattle.protocol.specs.declared.Order.TheVariants.{Create, Join, Leave}
 use Rattle.protocol.specs.declared.Call.TheVariants.{Order, Deliver}
-use Rattle.script.specs.declared.Record.TheVariants.{Call, Declare, Owner, Drain}
+use Rattle.script.specs.declared.Record.TheVariants.{Call, Declare, Owner, Drain, Peek}
 use Rattle.script.specs.Script.{Read, end, stop, next, read_at}
 
 -- ---- the example script
@@ -75,6 +75,11 @@ bad_digit = refl
 low-byte-first : read_at (0x52 ∷ 0x44 ∷ 0x01 ∷ 0x02 ∷ []) 0 ≡ next (Drain 513) 4
 unfolding read_at
 low-byte-first = refl
+
+-- ---- R9.2: PK has no fields, so that the next mark follows it at once
+peeks : readings 20 (0x50 ∷ 0x4b ∷ 0x50 ∷ 0x4b ∷ 0x44 ∷ 0x4c ∷ 0x00 ∷ []) 0 ≡ next Peek 2 ∷ next Peek 4 ∷ next (Call (Deliver 0)) 7 ∷ end ∷ []
+unfolding read_at readings
+peeks = refl
 
 -- ---- refusal 2 of a record and of a mark cut short; refusal 1 of an unknown mark, as a mark's
 -- letters are capitals

@@ -10,9 +10,9 @@ use Rattle.serial.specs.Serial.{positional, packed_of, binary_of}
 use Rattle.protocol.specs.declared.Order.TheVariants.{Create as CreateOrder, Join as JoinOrder, Leave as LeaveOrder}
 use Rattle.protocol.specs.declared.Call.TheVariants.{Order, Deliver as DeliverCall}
 use Rattle.script.specs.declared.Mark.{Mark}
-use Rattle.script.specs.declared.Mark.TheVariants.{PackedDeclare, BinaryDeclare, Create, Join, Leave, Deliver, PackedOwner, BinaryOwner, Drain}
+use Rattle.script.specs.declared.Mark.TheVariants.{PackedDeclare, BinaryDeclare, Create, Join, Leave, Deliver, PackedOwner, BinaryOwner, Drain, Peek}
 use Rattle.script.specs.declared.Record.{Record}
-use Rattle.script.specs.declared.Record.TheVariants.{Call as CallRecord, Declare as DeclareRecord, Owner as OwnerRecord, Drain as DrainRecord}
+use Rattle.script.specs.declared.Record.TheVariants.{Call as CallRecord, Declare as DeclareRecord, Owner as OwnerRecord, Drain as DrainRecord, Peek as PeekRecord}
 use Rattle.script.specs.declared.Next.{Next}
 
 -- R9.5: what is read at a cursor: the end, a refusal that stops the reading, or a record and the
@@ -41,9 +41,11 @@ mark_of a b =
     (cond (spells "OC" a b) (Some PackedOwner)
     (cond (spells "ON" a b) (Some BinaryOwner)
     (cond (spells "RD" a b) (Some Drain)
-    None))))))))
+    (cond (spells "PK" a b) (Some Peek)
+    None)))))))))
 
--- R9.3, R9.4: a node and a place have one byte, a serial has four, a budget two
+-- R9.3, R9.4: a node and a place have one byte, a serial has four, a budget two; R9.2: PK has no
+-- fields
 abbrev pub size_of : Mark → ℕ
 size_of PackedDeclare = 4
 size_of BinaryDeclare = 4
@@ -54,6 +56,7 @@ size_of Deliver = 1
 size_of PackedOwner = 5
 size_of BinaryOwner = 5
 size_of Drain = 2
+size_of Peek = 0
 
 -- R9.4: four bytes from place i on
 abbrev pub four : List ℕ → ℕ → List ℕ
@@ -72,6 +75,7 @@ record_of PackedOwner fields = OwnerRecord (get_or fields 0 0) (packed_of (four 
 record_of BinaryOwner fields = OwnerRecord (get_or fields 0 0) (binary_of (four fields 1))
 -- R9.3: a budget has its low byte first
 record_of Drain fields = DrainRecord (positional 256 (reverse (get_or fields 0 0 ∷ get_or fields 1 0 ∷ [])))
+record_of Peek fields = PeekRecord
 
 -- ---- a record at a cursor
 -- refusal 1 of an unknown mark, refusal 2 of a record cut short; `at` is the cursor after the mark

@@ -22,10 +22,11 @@ pub enum Mark {
     PackedOwner,
     BinaryOwner,
     Drain,
+    Peek,
 }
 
 /// What a record asks: a call; a declaration, whose serial may be refused at its turn; the owner of
-/// a serial; a drain.
+/// a serial; a drain; how many messages wait.
 #[derive(Clone, Copy, Debug, PartialEq, Eq)]
 pub enum Record {
     Call(Call),
@@ -35,6 +36,7 @@ pub enum Record {
         serial: Result<u32, SerialError>,
     },
     Drain(u16),
+    Peek,
 }
 
 /// A record that was read, and the cursor after it.
@@ -45,7 +47,7 @@ pub struct Next {
 }
 
 // The letters of each mark as one number, the first its high byte: the look-up is then a search
-// among nine numbers. Two tests for each mark in turn cost 32 instructions a record more.
+// among ten numbers. Two tests for each mark in turn cost 32 instructions a record more.
 const BC: u16 = 0x4243;
 
 const BN: u16 = 0x424E;
@@ -64,6 +66,8 @@ const ON: u16 = 0x4F4E;
 
 const RD: u16 = 0x5244;
 
+const PK: u16 = 0x504B;
+
 impl Mark {
     // An `Option`, as of `char::from_digit`, and no `TryFrom`: that no mark is a refusal, and
     // which, `read` says.
@@ -80,6 +84,7 @@ impl Mark {
             OC => Some(Mark::PackedOwner),
             ON => Some(Mark::BinaryOwner),
             RD => Some(Mark::Drain),
+            PK => Some(Mark::Peek),
             _ => None,
         }
     }
@@ -89,6 +94,7 @@ impl Mark {
         ensures { result ≡ size_of self }
     {
         match self {
+            Mark::Peek => 0,
             Mark::Create | Mark::Leave | Mark::Deliver => 1,
             Mark::Drain => 2,
             Mark::Join => 3,
@@ -127,6 +133,7 @@ fn record_of(mark: Mark, fields: &[u8]) -> Option<Record>
             serial: serial::binary([a, b, c, d]),
         }),
         (Mark::Drain, &[low, high, ..]) => Some(Record::Drain(u16::from_le_bytes([low, high]))),
+        (Mark::Peek, _) => Some(Record::Peek),
         _ => None,
     }
 }

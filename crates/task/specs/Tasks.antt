@@ -25,6 +25,7 @@ task_of (record'.Call call) = Ok (task.Call call)
 task_of (record'.Declare serial) = declaring serial
 task_of (record'.Owner start serial) = Ok (task.Owner start serial)
 task_of (record'.Drain budget) = Ok (task.Drain budget)
+task_of record'.Peek = Ok task.Peek
 
 -- what a script's bytes at a cursor ask; at the end, where nobody asks, it is as if a record were
 -- cut short

@@ -12,7 +12,7 @@ use refusal::Refusal;
 use script::Record;
 use serial::SerialError;
 
-/// What a network is asked: a call, the owner of a serial, a drain.
+/// What a network is asked: a call, the owner of a serial, a drain, how many messages wait.
 #[derive(Clone, Copy, Debug, PartialEq, Eq)]
 pub enum Task {
     Call(Call),
@@ -21,6 +21,7 @@ pub enum Task {
         serial: Result<u32, SerialError>,
     },
     Drain(u16),
+    Peek,
 }
 
 /// What is read at a cursor: the task, or the refusal to be told; and the cursor after it.
@@ -41,6 +42,7 @@ impl TryFrom<Record> for Task {
             Record::Declare(serial) => Ok(Task::Call(Call::Order(Order::Declare(serial?)))),
             Record::Owner { start, serial } => Ok(Task::Owner { start, serial }),
             Record::Drain(budget) => Ok(Task::Drain(budget)),
+            Record::Peek => Ok(Task::Peek),
         }
     }
 }
