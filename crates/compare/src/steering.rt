@@ -236,14 +236,16 @@ impl Draw<'_> {
         }
     }
 
-    // Each may be 0, and then the drain has no limit.
+    // Large, any, as many as messages wait, none, which is no limit, or small. Where notices are to
+    // lie a few drains have no limit, since that empties the network.
     fn budget(&self) -> u16 {
         let some = self.throw.below(Purpose::Budget, 65_536) as u16;
         match self.throw.below(Purpose::BudgetKind, 12) {
             0 => u16::MAX,
             1 => some,
             2 => some % 64,
-            _ => some % 6,
+            3 if self.temper() != Temper::Hoarding => 0,
+            _ => some % 5 + 1,
         }
     }
 
@@ -312,7 +314,7 @@ impl Draw<'_> {
         match (foreseen, record) {
             (Some(Came::Done(Outcome::LeftSet | Outcome::LeftOld)), _) => 2,
             (_, Record::Drain { .. }) => if self.network.is_full() { 100 } else { 8 },
-            (_, Record::Deliver { place: 0 }) => 4,
+            (_, Record::Deliver { place: 0 }) => 1,
             _ => welcome_share(foreseen),
         }
     }
@@ -380,7 +382,7 @@ impl Draw<'_> {
             Mark::Bc => Record::Declare(self.faulty_packed()),
             Mark::Bn => Record::Declare(self.faulty_binary()),
             Mark::Cr => Record::Create { node: maybe },
-            Mark::Jn => self.faulty_join(some, maybe, wrong),
+            Mark::Jn | Mark::Pk => self.faulty_join(some, maybe, wrong),
             Mark::Lv => Record::Leave { node: wrong },
             Mark::Dl => Record::Deliver { place: maybe },
             Mark::Oc => Record::Owner {
@@ -391,8 +393,8 @@ impl Draw<'_> {
                 start: maybe,
                 serial: self.faulty_binary(),
             },
-            Mark::Rd | Mark::Pk if throw.one_of(Purpose::NoMark, 8) => return self.no_mark(wrong),
-            Mark::Rd | Mark::Pk => Record::Create { node: wrong },
+            Mark::Rd if throw.one_of(Purpose::NoMark, 8) => return self.no_mark(wrong),
+            Mark::Rd => Record::Create { node: wrong },
         })
     }
 

@@ -23,7 +23,7 @@ use Rattle.protocol.specs.State.{State, load, well_formed}
 use Rattle.protocol.specs.Calls.{is_full, apply_of}
 use Rattle.protocol.specs.History.{History, start, advanced, run, history}
 use Rattle.protocol.specs.Answer.{accepted}
-use Rattle.protocol.specs.Drain.{lowest_from, lowest, after_delivery, places_from, places_within, places, deliver_all, posts_of_all, drained, drain_of}
+use Rattle.protocol.specs.Drain.{lowest_from, lowest, after_delivery, places_from, places_within, limit, places, deliver_all, posts_of_all, drained, drain_of}
 use Rattle.protocol.specs.FurtherClaims.{DrainClaim, Unlimited, UnlimitedClaim, DrainIsCalls}
 use Rattle.protocol.specs.Claim.{delivered}
 use Rattle.protocol.proofs.Facts.{well-formed}
@@ -132,8 +132,12 @@ makes s w (suc allowed) =
     (eq-zero-or-pos (length s.messages))
 
 pub drains : DrainClaim
-drains s w zero = record { result = drain_is s zero w; within_budget = λ d. absurd (d refl); none_refused = (makes s w (load s.messages)).none_refused; to_the_end = λ l. absurd (omega arith) }
-drains s w (suc budget) = let m = makes s w (suc budget) in record { result = drain_is s (suc budget) w; within_budget = λ _. m.within; none_refused = m.none_refused; to_the_end = m.to_the_end }
+drains s w zero =
+    let m = makes s w (limit zero s) in
+    record { result = drain_is s zero w; within_budget = λ some. absurd (some refl); none_refused = m.none_refused; to_the_end = λ l. absurd (omega arith) }
+drains s w (suc budget) =
+    let m = makes s w (suc budget) in
+    record { result = drain_is s (suc budget) w; within_budget = λ _. m.within; none_refused = m.none_refused; to_the_end = m.to_the_end }
 
 -- ---- with no limit
 -- where nothing waits at the end, it is the same however many more deliveries are allowed
@@ -151,11 +155,14 @@ module _ (s : State) (w : T (well_formed s)) where
   abbrev end : State
   end = deliver_all s (places 0 s)
 
-  all-made : Makes s (load s.messages)
-  all-made = makes s w (load s.messages)
+  all-made : Makes s (limit 0 s)
+  all-made = makes s w (limit 0 s)
 
   few : length s.messages ≤ 64
   few = (well-formed s (is_true _ w)).few_messages
+
+  all-allowed : load s.messages ≤ limit 0 s
+  all-allowed = omega arith
 
   -- as many deliveries as the load leave none of it
   none_left : load s.messages ≤ length (places 0 s) → length end.messages ≡ 0
@@ -165,15 +172,15 @@ module _ (s : State) (w : T (well_formed s)) where
   nothing =
       ⊎_elim
       (λ t. all-made.to_the_end (ltb-true _ _ t))
-      (λ f. nothing_left end.messages (none_left (ltb-false _ _ f)))
-      (decided (ltb (length (places 0 s)) (load s.messages)))
+      (λ f. nothing_left end.messages (none_left (omega (arith, all-allowed, ltb-false (length (places 0 s)) (limit 0 s) f))))
+      (decided (ltb (length (places 0 s)) (limit 0 s)))
 
   of-zero : Unlimited s
   of-zero = record {
     nothing_waits = nothing;
     within_load = all-made.within;
     count_fits = omega (arith, all-made.within, (load-of-all s.messages).1, few);
-    no_limit = λ more. enough (load s.messages) more s nothing;
+    no_limit = λ more. enough (limit 0 s) more s nothing;
   }
 
 pub unlimited : UnlimitedClaim
