@@ -6,7 +6,8 @@ use std::io::{self, Write};
 #[path = "rules.rs"]
 mod rules;
 
-/// No printout is longer: a record has three bytes at least, and its line has forty at most.
+/// No printout is longer: PK has two bytes and a line of twenty at most, any other record three or
+/// more and a line of forty at most.
 const TEXT_LIMIT: usize = 1 << 20;
 
 struct Text {

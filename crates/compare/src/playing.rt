@@ -106,14 +106,14 @@ impl Match {
 
     // Makes the script of a number, and enters what comes of its records.
     fn make(&mut self, ordinal: u32) {
-        let mood = Throw::of_script(ordinal);
-        let most = most_bytes(ordinal, mood);
         self.script.clear();
         self.player = Player::new();
         if ordinal == MOST_LINES {
             self.fill_with_peeks();
             return;
         }
+        let mood = Throw::of_script(ordinal);
+        let most = most_bytes(ordinal, mood);
         if most > LONGEST {
             let _ = self.script.extend(iter::repeat_n(0, most));
             self.ledger

@@ -24,7 +24,7 @@ const MARKS: [Mark; 10] = [
 ];
 
 // Marks that are none.
-const NO_MARKS: [[u8; 2]; 4] = [*b"--", *b"bc", *b"Jn", *b"XX"];
+const NO_MARKS: [[u8; 2]; 5] = [*b"--", *b"bc", *b"Jn", *b"pk", *b"XX"];
 
 // How many records are drawn before a question takes their place.
 const DRAWS: usize = 12;
@@ -236,8 +236,8 @@ impl Draw<'_> {
         }
     }
 
-    // Large, any, as many as messages wait, none, which is no limit, or small. Where notices are to
-    // lie a few drains have no limit, since that empties the network.
+    // The largest, any, below 64, 0, which is no limit, or small. Where notices are to lie 0 is
+    // rare, since it empties the network.
     fn budget(&self) -> u16 {
         let some = self.throw.below(Purpose::Budget, 65_536) as u16;
         match self.throw.below(Purpose::BudgetKind, 12) {

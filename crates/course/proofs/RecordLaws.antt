@@ -1,6 +1,6 @@
 -- A record leaves the network well formed, on the arrays as on the lists, and posts no more than a
--- few messages; a refused one leaves it as it was; and the line of PK is short, which its two bytes
--- are as well. Assumes nothing.
+-- few messages; a refused one leaves it as it was; and the line of PK has twenty bytes at most.
+-- Assumes nothing.
 use mathlib.Core.Path.{◌≡◌}
 use mathlib.Core.Bool.{not}
 use mathlib.Core.List.{List, [], ◌∷◌}
@@ -13,8 +13,6 @@ use Rattle.predicates.proofs.TestLaws.{is_true}
 use Rattle.refusal.specs.Code.{Reason}
 use Rattle.refusal.specs.Rules.{no, ◌when◌, first, unless_refused}
 use Rattle.serial.specs.Serial.{coded}
-use Rattle.parts.specs.declared.Message.{Message}
-use Rattle.parts.specs.Tests.{is_request}
 use Rattle.protocol.specs.declared.Order.TheVariants.{Declare as DeclareOrder}
 use Rattle.protocol.specs.declared.Call.TheVariants.{Order, Deliver}
 use Rattle.protocol.specs.State.{State, well_formed}
@@ -22,8 +20,8 @@ use Rattle.protocol.specs.Calls.{refused, apply_of}
 use Rattle.protocol.specs.Questions.{peek_of}
 use Rattle.protocol.specs.Drain.{places, deliver_all, drain_of}
 use Rattle.protocol.proofs.Facts.{well-formed}
-use Rattle.protocol.proofs.Lively.{count-all, steady}
-use Rattle.protocol.proofs.Drains.{drain_is, drains}
+use Rattle.protocol.proofs.Lively.{steady}
+use Rattle.protocol.proofs.Drains.{load-of-all, drain_is, drains}
 use Rattle.protocol.proofs.Posted.{few-posts, few_posts_of_all, refused-same as call-refused-same, drain_refused_same}
 use Rattle.text.proofs.DecimalLaws.{few-digits}
 use Rattle.script.specs.declared.Record.{Record}
@@ -63,7 +61,7 @@ module _ (s : State) (w : T (well_formed s)) where
         few_posts_of_all s (places budget s),
         (drains s w budget).none_refused,
         (steady s w).lively.bound (places budget s),
-        count-all (λ (m : Message). is_request m.kind) s.messages,
+        (load-of-all s.messages).1,
         (well-formed s (is_true _ w)).few_messages,
       ))
 
@@ -98,8 +96,8 @@ lists-refused-same s asked r e = go (first ((6 when not (well_formed s)) ∷ fie
     go None f = executing-refused s asked r f
     go (Some n) f = cc
 
--- ---- the line of PK: five digits of the ordinal, two of the messages that wait, and the words
-pub peek-line : (s : State) → T (well_formed s) → (ordinal : ℕ) → ordinal < 100_000 → length (line_of ordinal (execute_of s Peek).said) ≤ 26
+-- ---- the line of PK: five digits of the ordinal, and two of the messages that wait
+pub peek-line : (s : State) → T (well_formed s) → (ordinal : ℕ) → ordinal < 100_000 → length (line_of ordinal (execute_of s Peek).said) ≤ 20
 unfolding execute_of peek_of line_of
 peek-line s w ordinal few =
     let waiting = length s.messages in

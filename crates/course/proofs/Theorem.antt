@@ -17,17 +17,18 @@ use borrow.Author.Tests.{eqb-false}
 use Rattle.predicates.proofs.Laws.{impossible}
 use Rattle.predicates.proofs.TestLaws.{◌∈◌, is_true}
 use Rattle.refusal.specs.Code.{Reason, plain}
-use Rattle.refusal.specs.Rules.{Coded, no, first, unless_refused}
+use Rattle.refusal.specs.Rules.{Coded, done, no, first, unless_refused}
 use Rattle.serial.specs.declared.SerialError.TheVariants.{BadDigit, TooLarge}
 use Rattle.protocol.specs.declared.Order.TheVariants.{Declare}
 use Rattle.protocol.specs.declared.Call.{Call}
 use Rattle.protocol.specs.declared.Call.TheVariants.{Order, Deliver}
 use Rattle.protocol.specs.declared.Reply.{Reply}
+use Rattle.protocol.specs.declared.Reply.TheVariants.{Ran}
 use Rattle.protocol.specs.State.{State, requests, well_formed}
 use Rattle.protocol.specs.Calls.{Result, refused, apply_of}
 use Rattle.protocol.specs.History.{History, start, history}
 use Rattle.protocol.specs.Drain.{places, drain_of}
-use Rattle.protocol.proofs.Drains.{run_append, drain_is_calls}
+use Rattle.protocol.proofs.Drains.{run_append, drain_is, drain_is_calls, unlimited}
 use Rattle.protocol.proofs.Owners.{always_found}
 use Rattle.protocol.proofs.Theorem.{ring}
 use Rattle.script.specs.declared.Record.{Record}
@@ -91,6 +92,12 @@ module _ (calls : List Call) where
       go : (o : Option Reason) → first (field_rules here asked) ≡ o → Follows calls (calls_of here asked) (unless_refused o (refused here) (executing here asked))
       go None clear = done-so asked clear
       go (Some r) refuses = refused-so asked r refuses
+
+  -- RD with budget 0 leaves nothing
+  drains-to-the-end : (made : ℕ) × ((execute_of here (DrainRecord 0)).said ≡ done (Ran made 0))
+  unfolding execute_of
+  drains-to-the-end =
+      (length (places 0 here), rw (is_true (well_formed here) well-formed, drain_is here 0 well-formed, (unlimited here well-formed).nothing_waits))
 
 -- ---- record by record
 abbrev Sofar : List Call → Progress → Type 0
@@ -169,4 +176,5 @@ script_is_calls script k =
       never_31 = none-says 31 refl refl script
           (λ j. rw (sofar script j).0 (never_31 (script_calls script j))) k;
       found = λ from serial. rw network (always_found (script_calls script k) from serial);
+      drained = rw network (drains-to-the-end (script_calls script k));
     }

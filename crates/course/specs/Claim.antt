@@ -4,11 +4,12 @@
 use Rattle.std.specs.Prelude.{ℕ, zero, suc, ◌≡◌, Ok, Err}
 use mathlib.Core.List.{List, [], ◌∷◌, ◌++◌, map, Memᴰ}
 use Rattle.refusal.specs.Code.{plain}
-use Rattle.refusal.specs.Rules.{Coded, no}
+use Rattle.refusal.specs.Rules.{Coded, done, no}
 use Rattle.protocol.specs.declared.Order.TheVariants.{Declare}
 use Rattle.protocol.specs.declared.Call.{Call}
 use Rattle.protocol.specs.declared.Call.TheVariants.{Order, Deliver}
 use Rattle.protocol.specs.declared.Reply.{Reply}
+use Rattle.protocol.specs.declared.Reply.TheVariants.{Ran}
 use Rattle.protocol.specs.State.{State, status_at}
 use Rattle.protocol.specs.History.{history}
 use Rattle.protocol.specs.Claim.{posted_for, Settled, Sound}
@@ -75,6 +76,8 @@ pub record Made (script : List ℕ) (k : ℕ) : Type 0 where
   -- R10.11: nor 31, whoever is asked for
   pub never_31 : ¬ Memᴰ (no (plain 31)) (answers_of script k)
   pub found : (start serial : ℕ) → ¬ (owner_of (after script k).state start serial ≡ no (plain 31))
+  -- R8.4: a record RD with budget 0 would now be answered that nothing is left
+  pub drained : (made : ℕ) × ((execute_of (after script k).state (DrainRecord 0)).said ≡ done (Ran made 0))
 
 -- R10.11: for every script, whatever its bytes, and after each of its records
 abbrev pub ScriptClaim : Type 0

@@ -100,9 +100,11 @@ fn drained(rt: &impl Print) -> io::Result<()> {
     ) else {
         return Ok(());
     };
-    println!(rt; "R8.5, such a network with a request that is granted, waiting: {waiting}")?;
+    println!(rt;
+        "R8.5, of such a network with a request that is granted, messages that wait: {waiting}"
+    )?;
     println!(rt; "R8.4, R10.13, a drain of it with no limit makes deliveries: {made}")?;
-    println!(rt; "R8.4, and leaves waiting: {left}")?;
+    println!(rt; "R8.4, it leaves messages: {left}")?;
     println!(rt;
         "R10.13, of the networks before and after it, so many are well formed: {}",
         [network, called.network]

@@ -3,7 +3,7 @@
 -- drain does not go on it is finished. Assumes nothing.
 use mathlib.Core.Path.{◌≡◌, refl, sym, ap, ◌∙◌}
 use mathlib.Core.Logic.{⊎_elim, ◌≢◌}
-use mathlib.Core.Bool.{Bool, true, false, cond, ◌&&◌, ◌||◌}
+use mathlib.Core.Bool.{Bool, true, false, cond, ◌||◌}
 use mathlib.Core.List.{List, [], ◌∷◌}
 use Rattle.std.specs.Prelude.{None, Some, unwrap_or}
 use Prim.Native.Nat.{ℕ, zero, suc, ◌+◌, ◌*◌, ◌-◌, ◌^◌, ◌≤◌, ◌<◌}
@@ -19,7 +19,7 @@ use Rattle.protocol.specs.declared.Call.TheVariants.{Deliver}
 use Rattle.protocol.specs.declared.Reply.TheVariants.{Ran}
 use Rattle.protocol.specs.State.{State, queue_limit, load, well_formed as lists_are_well_formed}
 use Rattle.protocol.specs.Calls.{deliver_rules, apply_of as apply_to_lists}
-use Rattle.protocol.specs.Drain.{lowest_from, lowest, after_delivery, places_within, limit, places, deliver_all, posts_of_all, drain_of as drain_lists}
+use Rattle.protocol.specs.Drain.{lowest_from, lowest, after_delivery, places_within, allowed, places, deliver_all, posts_of_all, drain_of as drain_lists}
 use Rattle.protocol.proofs.Facts.{well-formed as lists-well-formed}
 use Rattle.protocol.proofs.Lively.{lowers, steady}
 use Rattle.protocol.proofs.Cases.{accepted_case}
@@ -31,6 +31,7 @@ use Rattle.network.specs.Arrays.{vacant_node, vacant_message, live, well_formed,
 use Rattle.network.proofs.Lengths.{Lengths}
 use Rattle.network.proofs.ArrayLaws.{well-formed, live-held, held_well_formed}
 use Rattle.network.proofs.LiveLaws.{messages-length}
+use Rattle.report.specs.Going.{goes_on}
 use Rattle.engine.specs.Outcomes.{Counted, counted, in_arrays, apply_of, drain_of}
 use Rattle.engine.specs.Computed.{next_delivery}
 use Rattle.ruling.specs.Places.{lowest_place_from, lowest_place}
@@ -80,55 +81,55 @@ neither : (p q : Bool) → (p || q) ≡ false → (p ≡ false) × (q ≡ false)
 neither true q e = impossible (sym e)
 neither false q e = (refl, e)
 
--- it goes on while its budget allows and a message waits
-abbrev pub goes_on : (budget made waiting : ℕ) → Bool
-goes_on budget made waiting = (eqb budget 0 || ltb made budget) && ltb 0 waiting
-
 -- a budget that is not 0 allows as many as it says
-limit-of : (budget : ℕ) (s : State) → budget ≢ 0 → limit budget s ≡ budget
-limit-of zero s some = absurd (some refl)
-limit-of (suc budget) s some = refl
+allowed-of : (budget : ℕ) (s : State) → budget ≢ 0 → allowed budget s ≡ budget
+allowed-of zero s some = absurd (some refl)
+allowed-of (suc budget) s some = refl
 
 -- and 0 no more than two bytes can count
-few-allowed : (budget : ℕ) (n : Network) → well_formed n ≡ true → budget < 2 ^ 16 → limit budget (live n) ≤ 65_535
+few-allowed : (budget : ℕ) (n : Network) → well_formed n ≡ true → budget < 2 ^ 16 → allowed budget (live n) ≤ 65_535
 few-allowed zero n h small = omega (arith, (load-of-all (live n).messages).1, (lists-well-formed (live n) (well-formed n h).lists).few_messages)
 few-allowed (suc budget) n h small = omega arith
 
 -- ---- a drain that has made some of its deliveries
+-- the places of those that it may still make
+abbrev pub still : (start : Network) (budget : ℕ) (n : Network) (made : ℕ) → List ℕ
+still start budget n made = places_within (allowed budget (live start) - made) (live n)
+
 pub record Underway (start : Network) (budget : ℕ) (n : Network) (made posted : ℕ) : Type 0 where
   pub arrays : Lengths n
   pub well_formed : well_formed n ≡ true
-  pub spent : made ≤ limit budget (live start)
+  pub spent : made ≤ allowed budget (live start)
   pub lowered : load (live n).messages + made ≤ load (live start).messages
   pub few : posted ≤ 2 * made
-  pub ends : deliver_all (live n) (places_within (limit budget (live start) - made) (live n)) ≡ deliver_all (live start) (places budget (live start))
-  pub counts : made + length (places_within (limit budget (live start) - made) (live n)) ≡ length (places budget (live start))
-  pub posts : posted + length (posts_of_all (live n) (places_within (limit budget (live start) - made) (live n))) ≡ length (posts_of_all (live start) (places budget (live start)))
+  pub ends : deliver_all (live n) (still start budget n made) ≡ deliver_all (live start) (places budget (live start))
+  pub counts : made + length (still start budget n made) ≡ length (places budget (live start))
+  pub posts : posted + length (posts_of_all (live n) (still start budget n made)) ≡ length (posts_of_all (live start) (places budget (live start)))
 
 pub begins : (n : Network) (budget : ℕ) → Lengths n → well_formed n ≡ true → Underway n budget n 0 0
 begins n budget l h =
-    let all : limit budget (live n) - 0 ≡ limit budget (live n) = omega arith in
+    let all : allowed budget (live n) - 0 ≡ allowed budget (live n) = omega arith in
     record { arrays = l; well_formed = h; spent = omega arith; lowered = omega arith; few = omega arith; ends = rw all; counts = rw all (omega arith); posts = rw all (omega arith) }
 
 module _ {start : Network} {budget : ℕ} {n : Network} {made posted : ℕ} (u : Underway start budget n made posted) where
-  abbrev allowed : ℕ
-  allowed = limit budget (live start)
+  abbrev most : ℕ
+  most = allowed budget (live start)
 
-  -- where a message waits it counts in the load, so that what is left of the load is not spent
+  -- a message that waits counts in the load, so that a budget of 0 allows one delivery more
   module _ (goes : goes_on budget made n.waiting ≡ true) where
     waits : 0 < n.waiting
     waits = ltb-true 0 n.waiting (both (eqb budget 0 || ltb made budget) _ goes).1
 
-    pub not-spent : made < allowed
+    pub not-spent : made < most
     not-spent = ⊎_elim of-any of-some (decided (eqb budget 0))
       where
-        of-any : eqb budget 0 ≡ true → made < allowed
+        of-any : eqb budget 0 ≡ true → made < most
         of-any t = let none : budget ≡ 0 = eqb-true budget 0 t in
             rw none (omega (arith, u.lowered, (load-of-all (live n).messages).0, messages-length n u.arrays u.well_formed, waits))
 
-        of-some : eqb budget 0 ≡ false → made < allowed
+        of-some : eqb budget 0 ≡ false → made < most
         of-some f = let left : ltb made budget ≡ true = rw f at (both (eqb budget 0 || ltb made budget) _ goes).0 in
-            rw (limit-of budget (live start) (eqb-false budget 0 f)) (ltb-true made budget left)
+            rw (allowed-of budget (live start) (eqb-false budget 0 f)) (ltb-true made budget left)
 
   -- one delivery more, which is of a few messages
   module _ (place : ℕ) (x : Counted) (goes : goes_on budget made n.waiting ≡ true) (at : lowest (live n) ≡ Some place) (can : can_deliver (live n) place ≡ true) (e : x ≡ counted (apply_of n (Deliver place))) where
@@ -152,9 +153,9 @@ module _ {start : Network} {budget : ℕ} {n : Network} {made posted : ℕ} (u :
         let left = not-spent goes in
         let sent = (apply_to_lists (live n) (Deliver place)).posts in
         let lists : live x.network ≡ next = ap live came.0 ∙ live-held next in
-        let one : allowed - made ≡ suc (allowed - (made + 1)) = omega arith in
-        let head : places_within (allowed - made) (live n) ≡ place ∷ places_within (allowed - (made + 1)) next =
-            ap (λ k. places_within k (live n)) one ∙ places-next (allowed - (made + 1)) (live n) place at in
+        let one : most - made ≡ suc (most - (made + 1)) = omega arith in
+        let head : places_within (most - made) (live n) ≡ place ∷ places_within (most - (made + 1)) next =
+        ap (λ k. places_within k (live n)) one ∙ places-next (most - (made + 1)) (live n) place at in
         record {
           arrays = rw came.0 (held-lengths next kept);
           well_formed = rw came.0 (held_well_formed next kept);
@@ -163,10 +164,10 @@ module _ {start : Network} {budget : ℕ} {n : Network} {made posted : ℕ} (u :
           few = omega (arith, two, u.few);
           ends = rw lists (ap (deliver_all (live n)) (sym head) ∙ u.ends);
           counts = rw lists (omega (arith, u.counts, ap length head));
-          posts = rw lists (omega (arith, u.posts, ap (λ l. length (posts_of_all (live n) l)) head, came.1, length-append sent (posts_of_all next (places_within (allowed - (made + 1)) next))));
+          posts = rw lists (omega (arith, u.posts, ap (λ l. length (posts_of_all (live n) l)) head, came.1, length-append sent (posts_of_all next (places_within (most - (made + 1)) next))));
         }
 
-    pub tally-fits : allowed ≤ 65_535 → (made < 65_535) × (posted + x.posted < 4_294_967_296)
+    pub tally-fits : most ≤ 65_535 → (made < 65_535) × (posted + x.posted < 4_294_967_296)
     tally-fits small = let left = not-spent goes in (omega (arith, left), omega (arith, left, two, u.few))
 
   -- the next delivery, and what it comes to
@@ -184,7 +185,7 @@ module _ {start : Network} {budget : ℕ} {n : Network} {made posted : ℕ} (u :
     next-goes-on = one-more place x goes there.0 there.1 e
 
   -- nothing more to be delivered
-  finished : well_formed start ≡ true → places_within (allowed - made) (live n) ≡ []
+  finished : well_formed start ≡ true → still start budget n made ≡ []
       → record { network = n; posted = posted; said = done (Ran made n.waiting) } ≡ counted (drain_of start budget)
   unfolding drain_of drain_lists
   finished h none_left =
@@ -200,14 +201,14 @@ module _ {start : Network} {budget : ℕ} {n : Network} {made posted : ℕ} (u :
       → record { network = n; posted = posted; said = done (Ran made n.waiting) } ≡ counted (drain_of start budget)
   stops h over = finished h (⊎_elim none-wait none_left (decided (eqb budget 0 || ltb made budget)))
     where
-      none-wait : (eqb budget 0 || ltb made budget) ≡ true → places_within (allowed - made) (live n) ≡ []
+      none-wait : (eqb budget 0 || ltb made budget) ≡ true → still start budget n made ≡ []
       none-wait t =
           let empty : n.waiting ≤ 0 = ltb-false 0 n.waiting (rw t at over) in
-          places-none (allowed - made) (live n) (messages-length n u.arrays u.well_formed ∙ omega arith)
+          places-none (most - made) (live n) (messages-length n u.arrays u.well_formed ∙ omega arith)
 
-      none_left : (eqb budget 0 || ltb made budget) ≡ false → places_within (allowed - made) (live n) ≡ []
+      none_left : (eqb budget 0 || ltb made budget) ≡ false → still start budget n made ≡ []
       none_left f =
           let (zero-not, over-budget) = neither (eqb budget 0) (ltb made budget) f in
-          let limits = limit-of budget (live start) (eqb-false budget 0 zero-not) in
-          let spent : allowed - made ≡ 0 = omega (arith, limits, ltb-false made budget over-budget) in
+          let limits = allowed-of budget (live start) (eqb-false budget 0 zero-not) in
+          let spent : most - made ≡ 0 = omega (arith, limits, ltb-false made budget over-budget) in
           ap (λ k. places_within k (live n)) spent

@@ -23,14 +23,15 @@ use Rattle.progress.specs.declared.Progress.{Progress}
 use Rattle.engine.specs.declared.printing.Kept.{Kept}
 use Rattle.course.specs.Execution.{execute_of}
 use Rattle.course.specs.Run.{Progress as Reached, start, advanced, step_of, after, closed, size_limit, too_long, printout_of}
-use Rattle.engine.specs.Reached.{reached}
+use Rattle.engine.specs.Reached.{reached, text_size}
 use Rattle.engine.proofs.StepOfScript.{State, far, MayStep, Stepped}
 use Rattle.course.proofs.RecordLaws.{peek-line}
 use Rattle.course.proofs.ScriptLaws.{Within, step-within, one-record, cursor-moves, ended-after}
 
 -- forty bytes of the text for three of the script; the last record may be cut short
-abbrev pub Short : List ℕ → State → Type 0
-Short script x = (x.progress.at < length script → 3 * length x.text ≤ 40 + 40 * x.progress.at) × (3 * length x.text ≤ 120 + 40 * x.progress.at)
+pub record Short (script : List ℕ) (x : State) : Type 0 where
+  pub between : x.progress.at < length script → 3 * length x.text ≤ 40 + 40 * x.progress.at
+  pub all : 3 * length x.text ≤ 120 + 40 * x.progress.at
 
 -- what holds at each turn
 pub record Turn (script : List ℕ) (x : State) : Type 0 where
@@ -51,7 +52,7 @@ first-turn script text k e printed =
       sound = rw e (held_well_formed empty_lists refl);
       within = rw here record { sound = tt; inside = omega arith; records = λ l. omega arith; few = omega arith; posts = omega arith };
       come = here;
-      short = (λ l. omega (arith, ap length printed), omega (arith, ap length printed));
+      short = record { between = λ l. omega (arith, ap length printed); all = omega (arith, ap length printed) };
     }
 
 -- ---- at any turn over a script within the limit
@@ -59,8 +60,8 @@ module _ (script : List ℕ) (x : State) (t : Turn script x) (size : length scri
   few-records : x.progress.ordinal ≤ 32_768
   few-records = omega (arith, t.within.few, t.within.inside)
 
-  pub has_room : length x.text + 40 ≤ 874_000
-  has_room = omega (arith, t.within.inside, t.short.1)
+  pub has_room : length x.text + 40 ≤ text_size
+  has_room = omega (arith, t.within.inside, t.short.all)
 
   pub may-step : x.progress.at < length script → MayStep script x
   may-step not-ended = (t.sound, not-ended, has_room, omega (arith, few-records), omega (arith, few-records, t.within.posts))
@@ -76,7 +77,7 @@ module _ (script : List ℕ) (x : State) (t : Turn script x) (size : length scri
     line-fits (stop r) e =
         let ended : far y ≡ advanced script (far x) (stop r) = stepped.0 ∙ ap (advanced script (far x)) e in
         let ends : y.progress.at ≡ length script = ap (λ (p : Reached). p.at) ended in
-        (λ more. absurd (omega (arith, ends, more)), omega (arith, ends, not-ended, t.short.0 not-ended, stepped.2))
+        record { between = λ more. absurd (omega (arith, ends, more)); all = omega (arith, ends, not-ended, t.short.between not-ended, stepped.2) }
     line-fits (next asked c) e = by-record asked moved (after-cursor script x.progress.at asked c e).0
       where
         moved : far y ≡ advanced script (far x) (next asked c)
@@ -88,7 +89,7 @@ module _ (script : List ℕ) (x : State) (t : Turn script x) (size : length scri
         -- a line of so many bytes at most
         by-line : (most : ℕ) → length y.text ≤ length x.text + most → 3 * most + 40 * x.progress.at ≤ 40 * c
             → Short script y
-        by-line most line fits = (λ _. omega (arith, cursor, t.short.0 not-ended, line, fits), omega (arith, cursor, t.short.0 not-ended, line, fits))
+        by-line most line fits = record { between = λ _. omega (arith, cursor, t.short.between not-ended, line, fits); all = omega (arith, cursor, t.short.between not-ended, line, fits) }
 
         by-record : (asked : Record) → far y ≡ advanced script (far x) (next asked c) → x.progress.at + least asked ≤ c
             → Short script y
@@ -99,8 +100,8 @@ module _ (script : List ℕ) (x : State) (t : Turn script x) (size : length scri
         by-record Peek e past =
             let line = line_of (x.progress.ordinal + 1) (execute_of (live x.kept.network) Peek).said in
             let printed : y.text ≡ x.text ++ line = ap (λ (p : Reached). p.text) e in
-            let short : length line ≤ 26 = peek-line (live x.kept.network) t.within.sound (x.progress.ordinal + 1) (omega (arith, few-records)) in
-            by-line 26 (omega (arith, ap length printed, length-append x.text line, short)) (omega (arith, past))
+            let short : length line ≤ 20 = peek-line (live x.kept.network) t.within.sound (x.progress.ordinal + 1) (omega (arith, few-records)) in
+            by-line 20 (omega (arith, ap length printed, length-append x.text line, short)) (omega (arith, past))
 
     pub next-turn : Turn script y
     next-turn = record {

@@ -21,7 +21,7 @@ use Rattle.protocol.specs.State.{State, status_at, requests, well_formed as list
 use Rattle.protocol.specs.Calls.{refused as lists_refused, apply_of as apply_to_lists}
 use Rattle.protocol.specs.History.{History, start, advanced, run as run_lists, history}
 use Rattle.protocol.specs.Claim.{Settled}
-use Rattle.protocol.specs.Drain.{places, drained as drained_lists, drain_of as drain_lists}
+use Rattle.protocol.specs.Drain.{allowed, places, drained as drained_lists, drain_of as drain_lists}
 use Rattle.protocol.proofs.Lively.{steady}
 use Rattle.protocol.proofs.Drains.{nothing_left, unlimited, deliveries_are_calls}
 use Rattle.protocol.proofs.Theorem.{ring}
@@ -131,7 +131,7 @@ emptied n w =
     let h = is_true (well_formed n) w in
     let lists = (well-formed n h).lists in
     let u = unlimited (live n) (holds lists) in
-    record { nothing_waits = rw (h, lists, u.nothing_waits); made = length (places 0 (live n)); said = rw (h, lists, u.nothing_waits); within_load = u.within_load }
+    record { nothing_waits = rw (h, lists, u.nothing_waits); made = length (places 0 (live n)); said = rw (h, lists, u.nothing_waits); within_load = u.within_load (allowed 0 (live n)) }
 
 module _ (calls : List Call) (budget : ℕ) where
   -- the network that the calls make, drained

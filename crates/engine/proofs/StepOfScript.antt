@@ -30,7 +30,7 @@ use Rattle.course.specs.Execution.{execute_of as execute_on_lists}
 use Rattle.course.specs.Run.{Progress as Reached, step_of, too_long}
 use Rattle.engine.specs.Outcomes.{Counted, counted, refused, reported}
 use Rattle.engine.specs.InArrays.{execute_of}
-use Rattle.engine.specs.Reached.{reached}
+use Rattle.engine.specs.Reached.{reached, text_size}
 use Rattle.engine.proofs.RecordLaws.{on-lists, stays-well-formed, few-posted, refused-unchanged}
 use Rattle.engine.proofs.TaskLaws.{task-done}
 use Rattle.std.specs.Prelude.{Result, Ok, Err}
@@ -55,7 +55,7 @@ abbrev pub MayStep : List ℕ → State → Type 0
 MayStep script x =
     (well_formed x.kept.network ≡ true)
     × (x.progress.at < length script)
-    × (length x.text + 40 ≤ 874_000)
+    × (length x.text + 40 ≤ text_size)
     × (x.progress.ordinal < 100_000)
     × (x.progress.posted < 100_000_000)
 
@@ -124,21 +124,21 @@ short_refusal : length (line_of 0 (no (plain 7))) ≤ 40
 unfolding line_of decimal
 short_refusal = omega arith
 
-pub refused-whole : {text after : List ℕ} → text ≡ heading → after ≡ refused_text 874_000 text → after ≡ too_long
+pub refused-whole : {text after : List ℕ} → text ≡ heading → after ≡ refused_text text_size text → after ≡ too_long
 refused-whole reads written =
     let line = line_of 0 (no (plain 7)) in
-    let first : printed 874_000 heading line ≡ heading ++ line = printed_whole 874_000 heading line (omega arith) in
-    let room : length (heading ++ line) + 40 ≤ 874_000 = omega (arith, length-append heading line, short_refusal) in
-    written ∙ rw (reads, first) (printed_whole 874_000 (heading ++ line) (last_line 0 0) room)
+    let first : printed text_size heading line ≡ heading ++ line = printed_whole text_size heading line (omega arith) in
+    let room : length (heading ++ line) + 40 ≤ text_size = omega (arith, length-append heading line, short_refusal) in
+    written ∙ rw (reads, first) (printed_whole text_size (heading ++ line) (last_line 0 0) room)
 
 -- ---- a record that is left, where there is room and no count wraps
-module _ (p r : Progress) (after : ℕ) (m : Network) (report : Report) (text buffer : List ℕ) (may : (length text + 40 ≤ 874_000) × (p.ordinal < 100_000) × (p.posted < 100_000_000))
+module _ (p r : Progress) (after : ℕ) (m : Network) (report : Report) (text buffer : List ℕ) (may : (length text + 40 ≤ text_size) × (p.ordinal < 100_000) × (p.posted < 100_000_000))
     (few : report.posted ≤ 384) (quiet : (q : Reason) → answered report.answer ≡ no q → report.posted ≡ 0) where
   summed : (s : Coded Reply) → answered report.answer ≡ s → posted_after p.posted s report.posted ≡ p.posted + report.posted
   summed (replied reply) e = mod-eq_of_lt (omega (arith, may.2, few))
   summed (no q) e = omega (arith, quiet q e)
 
-  pub leaves-so : r ≡ left p after report → buffer ≡ printed 874_000 text (line_after p report) → length buffer ≤ length text + 40 → Left p r after (reported m report) text buffer
+  pub leaves-so : r ≡ left p after report → buffer ≡ printed text_size text (line_after p report) → length buffer ≤ length text + 40 → Left p r after (reported m report) text buffer
   leaves-so is line short =
       let next : (p.ordinal + 1) % 2 ^ 32 ≡ p.ordinal + 1 = mod-eq_of_lt (omega (arith, may.1)) in (
         ap (λ (q : Progress). q.at) is,

@@ -35,7 +35,7 @@ use Rattle.script.specs.declared.Record.TheVariants as asks
 use Rattle.report.specs.declared.Report.{Report}
 use Rattle.engine.specs.Outcomes.{Applied, counted, reported, refused, in_arrays, apply_of, drain_of}
 use Rattle.engine.specs.Answers.{owner_of}
-use Rattle.course.specs.Execution.{field_rules, value_of, saying, execute_of as execute_on_lists}
+use Rattle.course.specs.Execution.{field_rules, value_of, saying, executing, execute_of as execute_on_lists}
 use Rattle.engine.specs.InArrays.{execute_of}
 use Rattle.task.specs.Tasks.{task_of}
 use Rattle.engine.specs.Computed.{done_on}
@@ -61,6 +61,15 @@ six-told n r e says none-posted = told_so n r says none-posted ∙ ap counted (s
 module _ (n : Network) (l : Lengths n) (h : well_formed n ≡ true) where
   same : held (live n) ≡ n
   same = held-live n l.nodes l.messages h
+
+  -- ---- a question, as a record asks it, leaves the network and posts nothing, refused or not
+  module _ (asked : Record) (says : Coded Reply) (question : executing (live n) asked ≡ saying (live n) says) where
+    question-leaves : execute_of n asked ≡ record { network = n; posts = []; said = (execute_of n asked).said }
+    unfolding execute_of execute_on_lists
+    question-leaves = rw (h, question) (quiet (live n) same (first ((6 when not (lists_are_well_formed (live n))) ∷ field_rules (live n) asked)) says)
+
+    question-told : (r : Report) → answered r.answer ≡ (execute_of n asked).said → r.posted ≡ 0 → Reports (execute_of n asked) r n
+    question-told r told none-posted = told_so n r told none-posted ∙ ap counted (sym question-leaves)
 
   -- ---- the owner of a serial, as a record asks it
   module _ (start : ℕ) where
@@ -96,15 +105,10 @@ module _ (n : Network) (l : Lengths n) (h : well_formed n ≡ true) where
         absent f (Err BadDigit) = rw f (owner-undeclared (Err BadDigit) (ltb-false start n.count f))
         absent f (Err TooLarge) = rw f (owner-undeclared (Err TooLarge) (ltb-false start n.count f))
 
-    -- it leaves the network and posts nothing, whether or not it is refused
-    owner-leaves : (serial : Result ℕ SerialError) → execute_of n (asks.Owner start serial) ≡ record { network = n; posts = []; said = (execute_of n (asks.Owner start serial)).said }
-    unfolding execute_of execute_on_lists
-    owner-leaves serial =
-        rw h (quiet (live n) same (first ((6 when not (lists_are_well_formed (live n))) ∷ field_rules (live n) (asks.Owner start serial))) (owner_in_lists (live n) start (value_of (coded serial))))
-
     -- the answer, told
     pub owner-told : (serial : Result ℕ SerialError) (r : Report) → answered r.answer ≡ owner_asked n start serial → r.posted ≡ 0 → Reports (execute_of n (asks.Owner start serial)) r n
-    owner-told serial r says none-posted = told_so n r (says ∙ owner-executed serial) none-posted ∙ ap counted (sym (owner-leaves serial))
+    owner-told serial r says none-posted =
+        question-told (asks.Owner start serial) (owner_in_lists (live n) start (value_of (coded serial))) refl r (says ∙ owner-executed serial) none-posted
 
   -- ---- how many messages wait, as a record asks it
   pub peeked : peek_in_lists (live n) ≡ done (Ran 0 n.waiting)
@@ -115,12 +119,8 @@ module _ (n : Network) (l : Lengths n) (h : well_formed n ≡ true) where
   unfolding execute_of execute_on_lists
   peek-executed = rw (h, (well-formed n h).lists) peeked
 
-  peek-leaves : execute_of n asks.Peek ≡ record { network = n; posts = []; said = (execute_of n asks.Peek).said }
-  unfolding execute_of execute_on_lists
-  peek-leaves = rw h (quiet (live n) same (first ((6 when not (lists_are_well_formed (live n))) ∷ [])) (peek_in_lists (live n)))
-
   pub peek-told : (r : Report) → answered r.answer ≡ done (Ran 0 n.waiting) → r.posted ≡ 0 → Reports (execute_of n asks.Peek) r n
-  peek-told r says none-posted = told_so n r (says ∙ sym peek-executed) none-posted ∙ ap counted (sym peek-leaves)
+  peek-told r says none-posted = question-told asks.Peek (peek_in_lists (live n)) refl r (says ∙ sym peek-executed) none-posted
 
   -- ---- a record is its task
   pub task-done : (asked : Record) → counted (done_on n (task_of asked)) ≡ counted (execute_of n asked)

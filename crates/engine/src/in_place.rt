@@ -3,6 +3,9 @@
 //! holds the `&mut` and keeps the fact would be made at each door, and each contract would be of
 //! what lies behind its reference.
 ghost use Rattle.std.specs.Prelude.{◌≡◌, true, ◌<◌, length};
+ghost use Rattle.refusal.specs.Rules.{done};
+ghost use Rattle.protocol.specs.declared.Reply.TheVariants.{Ran};
+ghost use Rattle.protocol.specs.Answer.{answered};
 ghost use Rattle.network.specs.Arrays.{well_formed};
 ghost use Rattle.engine.specs.Outcomes.{reported, counted, apply_of, drain_of};
 ghost use Rattle.engine.specs.Computed.{next_delivery, done_on, Allowed};
@@ -68,6 +71,13 @@ pub(crate) fn drain(network: &mut Network, budget: u16) -> Report
     tally.ran(network.waiting)
 }
 
+// How many messages wait, told as by a drain that makes no delivery.
+pub(crate) fn peek(network: &Network) -> Report
+    ensures { (answered result.answer ≡ done (Ran 0 network.now.waiting)) × (result.posted ≡ 0) }
+{
+    Tally::default().ran(network.waiting)
+}
+
 pub(crate) fn execute(network: &mut Network, task: Result<Task, Refusal>) -> Report
     requires { Allowed network.old task }
     ensures { reported network.new result ≡ counted (done_on network.old task) }
@@ -87,7 +97,7 @@ pub(crate) fn execute(network: &mut Network, task: Result<Task, Refusal>) -> Rep
         Task::Drain(budget) => drain(network, budget),
         Task::Peek => {
             sizes(network);
-            Tally::default().ran(network.waiting)
+            peek(network)
         }
     }
 }

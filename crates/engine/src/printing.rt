@@ -6,7 +6,7 @@ ghost use Rattle.std.specs.Prelude.{◌+◌, ◌≤◌, ◌<◌, length, true, �
 ghost use Rattle.network.specs.Arrays.{empty, well_formed};
 ghost use Rattle.printout.specs.Lines.{heading};
 ghost use Rattle.printout.specs.Writing.{LongerByALine};
-ghost use Rattle.engine.specs.Reached.{reached};
+ghost use Rattle.engine.specs.Reached.{reached, text_size};
 ghost use Rattle.course.specs.Run.{step_of, after, closed, size_limit, printout_of};
 
 use crate::in_place;
@@ -17,8 +17,9 @@ use text::Page;
 /// R9.1: how long a script may be.
 pub const SIZE_LIMIT: usize = 65_536;
 
-/// How many bytes the text of a printout has room for, forty for three bytes of a script: a record
-/// has three bytes at least, and its line forty at most; but PK has two, and its line 26 at most.
+/// How many bytes the text of a printout has room for, forty for three bytes of a script: PK has two
+/// bytes, and its line twenty at most; any other record has three or more, and its line forty at
+/// most.
 pub const TEXT_SIZE: usize = 874_000;
 
 // What a run keeps from record to record: what the program will keep beside the network belongs
@@ -41,7 +42,7 @@ fn nothing_kept() -> Kept
 // in the loop of `run` alone. No struct of its arguments: the script is the caller's, the text the
 // answer, and the progress a value that the loop hands on.
 fn step(kept: &mut Kept, script: &[u8], text: &mut Page<TEXT_SIZE>, p: Progress) -> Progress
-    requires { (well_formed kept.old.network ≡ true) × (p.at < length script.now) × (length text.old + 40 ≤ 874_000) × (p.ordinal < 100_000) × (p.posted < 100_000_000) }
+    requires { (well_formed kept.old.network ≡ true) × (p.at < length script.now) × (length text.old + 40 ≤ text_size) × (p.ordinal < 100_000) × (p.posted < 100_000_000) }
     ensures { (reached kept.new.network result text.new ≡ step_of script.now (reached kept.old.network p text.old))
         × (well_formed kept.new.network ≡ true) × (LongerByALine text.old text.new) }
 {

@@ -4,19 +4,18 @@ ghost use Rattle.std.specs.Prelude.{◌≡◌};
 ghost use Rattle.protocol.specs.Answer.{answered};
 ghost use Rattle.engine.specs.Answers.{peek_of, inserted_of, owner_of};
 
+use crate::in_place;
 use network::Network;
 use protocol::Answer;
 use refusal::Refusal;
-use report::Tally;
 
 /// How many messages wait, told as by a drain that makes no delivery.
 pub fn peek(network: Network) -> Answer
     ensures { answered result ≡ peek_of network }
 {
-    let told = Tally::default().ran(network.waiting);
     network
         .is_well_formed()
-        .then_some(told.answer)
+        .then_some(in_place::peek(&network).answer)
         .unwrap_or(Err(Refusal::Malformed))
 }
 

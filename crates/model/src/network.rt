@@ -296,7 +296,8 @@ impl Network {
         }
     }
 
-    // A budget of 0 is no limit: there are never as many deliveries as two bytes can count.
+    // A budget of 0 is no limit. What is taken from has an end all the same, far behind the last
+    // delivery.
     pub(crate) fn drain(&mut self, budget: u16) -> Answer {
         let allowed = if budget == 0 { u16::MAX } else { budget };
         let deliveries = (0..allowed).take_while(|_| self.deliver_lowest()).count();

@@ -23,8 +23,8 @@ use Rattle.protocol.specs.State.{State, load, well_formed}
 use Rattle.protocol.specs.Calls.{is_full, apply_of}
 use Rattle.protocol.specs.History.{History, start, advanced, run, history}
 use Rattle.protocol.specs.Answer.{accepted}
-use Rattle.protocol.specs.Drain.{lowest_from, lowest, after_delivery, places_from, places_within, limit, places, deliver_all, posts_of_all, drained, drain_of}
-use Rattle.protocol.specs.FurtherClaims.{DrainClaim, Unlimited, UnlimitedClaim, DrainIsCalls}
+use Rattle.protocol.specs.Drain.{lowest_from, lowest, after_delivery, places_from, places_within, allowed, places, deliver_all, posts_of_all, drained, drain_of}
+use Rattle.protocol.specs.FurtherClaims.{DrainClaim, UnlimitedClaim, DrainIsCalls}
 use Rattle.protocol.specs.Claim.{delivered}
 use Rattle.protocol.proofs.Facts.{well-formed}
 use Rattle.protocol.proofs.Lively.{count-all, lowers, steady}
@@ -81,12 +81,12 @@ pub finds-lowest : (s : State) → T (well_formed s) → 0 < length s.messages �
 finds-lowest s w some-wait = let (q, waits, can) = some-lowest s w some-wait in search_ends s (length s.messages) 0 q (omega arith) (omega arith) (is_true _ can)
 
 -- ---- the places of a drain
-pub places-none : (allowed : ℕ) (s : State) → length s.messages ≡ 0 → places_within allowed s ≡ []
+pub places-none : (most : ℕ) (s : State) → length s.messages ≡ 0 → places_within most s ≡ []
 places-none zero s e = refl
-places-none (suc allowed) s e = rw e
+places-none (suc most) s e = rw e
 
-pub places-next : (allowed : ℕ) (s : State) (place : ℕ) → lowest s ≡ Some place → places_within (suc allowed) s ≡ place ∷ places_within allowed (after_delivery s place)
-places-next allowed s place e = rw e
+pub places-next : (most : ℕ) (s : State) (place : ℕ) → lowest s ≡ Some place → places_within (suc most) s ≡ place ∷ places_within most (after_delivery s place)
+places-next most s place e = rw e
 
 -- ---- what a drain comes to
 pub drain_is : (s : State) (budget : ℕ) → T (well_formed s) → drain_of s budget ≡ drained s (places budget s)
@@ -102,20 +102,21 @@ nothing_left (x ∷ l) e = absurd (omega arith)
 pub load-of-all : (ms : List Message) → (length ms ≤ load ms) × (load ms ≤ 3 * length ms)
 load-of-all ms = let all = count-all (λ (m : Message). is_request m.kind) ms in (omega (arith, all), omega (arith, all))
 
-record Makes (s : State) (allowed : ℕ) : Type 0 where
-  within : length (places_within allowed s) ≤ allowed
-  none_refused : delivered s (places_within allowed s) ≡ length (places_within allowed s)
-  to_the_end : length (places_within allowed s) < allowed → (deliver_all s (places_within allowed s)).messages ≡ []
-  lowered : load (deliver_all s (places_within allowed s)).messages + length (places_within allowed s) ≤ load s.messages
+-- none of them is refused, each lowers the load, and there are fewer only where nothing waits then
+record Made (s : State) (most : ℕ) : Type 0 where
+  within : length (places_within most s) ≤ most
+  none_refused : delivered s (places_within most s) ≡ length (places_within most s)
+  to_the_end : length (places_within most s) < most → (deliver_all s (places_within most s)).messages ≡ []
+  lowered : load (deliver_all s (places_within most s)).messages + length (places_within most s) ≤ load s.messages
 
-makes_none : (s : State) (allowed : ℕ) → length s.messages ≡ 0 → Makes s allowed
-makes_none s allowed e =
-    let made = places-none allowed s e in
-    record { within = rw made (omega arith); none_refused = rw made; to_the_end = λ _. rw made (nothing_left s.messages e); lowered = rw made (omega arith) }
+made_none : (s : State) (most : ℕ) → length s.messages ≡ 0 → Made s most
+made_none s most e =
+    let none = places-none most s e in
+    record { within = rw none (omega arith); none_refused = rw none; to_the_end = λ _. rw none (nothing_left s.messages e); lowered = rw none (omega arith) }
 
-one_more : (s : State) (allowed place : ℕ) → lowest s ≡ Some place → can_deliver s place ≡ true → Makes (after_delivery s place) allowed → Makes s (suc allowed)
-one_more s allowed place e can m =
-    let next = places-next allowed s place e in
+one_more : (s : State) (most place : ℕ) → lowest s ≡ Some place → can_deliver s place ≡ true → Made (after_delivery s place) most → Made s (suc most)
+one_more s most place e can m =
+    let next = places-next most s place e in
     record {
       within = rw next (omega (arith, m.within));
       none_refused = rw next (omega (arith, bit-true can, m.none_refused));
@@ -123,31 +124,32 @@ one_more s allowed place e can m =
       lowered = rw next (omega (arith, bit-true can, lowers s place, m.lowered));
     }
 
-makes : (s : State) → T (well_formed s) → (allowed : ℕ) → Makes s allowed
-makes s w zero = record { within = omega arith; none_refused = refl; to_the_end = λ l. absurd (omega arith); lowered = omega arith }
-makes s w (suc allowed) =
+made : (s : State) → T (well_formed s) → (most : ℕ) → Made s most
+made s w zero = record { within = omega arith; none_refused = refl; to_the_end = λ l. absurd (omega arith); lowered = omega arith }
+made s w (suc most) =
     ⊎_elim
-    (makes_none s (suc allowed))
-    (λ some-wait. let (place, e, can) = finds-lowest s w some-wait in one_more s allowed place e can (makes (after_delivery s place) ((steady s w).kept (Deliver place)) allowed))
+    (made_none s (suc most))
+    (λ some-wait. let (place, e, can) = finds-lowest s w some-wait in one_more s most place e can (made (after_delivery s place) ((steady s w).kept (Deliver place)) most))
     (eq-zero-or-pos (length s.messages))
 
+within-budget : (s : State) → T (well_formed s) → (budget : ℕ) → budget ≢ 0 → length (places budget s) ≤ budget
+within-budget s w zero some = absurd (some refl)
+within-budget s w (suc budget) some = (made s w (suc budget)).within
+
 pub drains : DrainClaim
-drains s w zero =
-    let m = makes s w (limit zero s) in
-    record { result = drain_is s zero w; within_budget = λ some. absurd (some refl); none_refused = m.none_refused; to_the_end = λ l. absurd (omega arith) }
-drains s w (suc budget) =
-    let m = makes s w (suc budget) in
-    record { result = drain_is s (suc budget) w; within_budget = λ _. m.within; none_refused = m.none_refused; to_the_end = m.to_the_end }
+drains s w budget =
+    let m = made s w (allowed budget s) in
+    record { result = drain_is s budget w; within_budget = within-budget s w budget; none_refused = m.none_refused; to_the_end = m.to_the_end }
 
 -- ---- with no limit
 -- where nothing waits at the end, it is the same however many more deliveries are allowed
-enough : (allowed more : ℕ) (s : State) → (deliver_all s (places_within allowed s)).messages ≡ [] → places_within (allowed + more) s ≡ places_within allowed s
+enough : (most more : ℕ) (s : State) → (deliver_all s (places_within most s)).messages ≡ [] → places_within (most + more) s ≡ places_within most s
 enough zero more s e = ap (λ k. places_within k s) (zero-add more) ∙ places-none more s (ap length e)
-enough (suc allowed) more s e = ap (λ k. places_within k s) (suc-add allowed more) ∙ go (enough allowed more) (lowest s) e
+enough (suc most) more s e = ap (λ k. places_within k s) (suc-add most more) ∙ go (enough most more) (lowest s) e
   where
-    go : ((s : State) → (deliver_all s (places_within allowed s)).messages ≡ [] → places_within (allowed + more) s ≡ places_within allowed s)
-        → (o : Option ℕ) → (deliver_all s (places_from (places_within allowed) s o)).messages ≡ []
-        → places_from (places_within (allowed + more)) s o ≡ places_from (places_within allowed) s o
+    go : ((s : State) → (deliver_all s (places_within most s)).messages ≡ [] → places_within (most + more) s ≡ places_within most s)
+        → (o : Option ℕ) → (deliver_all s (places_from (places_within most) s o)).messages ≡ []
+        → places_from (places_within (most + more)) s o ≡ places_from (places_within most) s o
     go then None e = refl
     go then (Some place) e = ap (λ l. place ∷ l) (then (after_delivery s place) e)
 
@@ -155,36 +157,33 @@ module _ (s : State) (w : T (well_formed s)) where
   abbrev end : State
   end = deliver_all s (places 0 s)
 
-  all-made : Makes s (limit 0 s)
-  all-made = makes s w (limit 0 s)
-
-  few : length s.messages ≤ 64
-  few = (well-formed s (is_true _ w)).few_messages
-
-  all-allowed : load s.messages ≤ limit 0 s
-  all-allowed = omega arith
+  all_allowed : load s.messages ≤ allowed 0 s
+  all_allowed = omega arith
 
   -- as many deliveries as the load leave none of it
-  none_left : load s.messages ≤ length (places 0 s) → length end.messages ≡ 0
-  none_left all = omega (arith, all-made.lowered, (load-of-all end.messages).0)
+  none_loaded : load s.messages ≤ length (places 0 s) → length end.messages ≡ 0
+  none_loaded all = omega (arith, (made s w (allowed 0 s)).lowered, (load-of-all end.messages).0)
 
-  nothing : end.messages ≡ []
-  nothing =
+  none-waits : end.messages ≡ []
+  none-waits =
       ⊎_elim
-      (λ t. all-made.to_the_end (ltb-true _ _ t))
-      (λ f. nothing_left end.messages (none_left (omega (arith, all-allowed, ltb-false (length (places 0 s)) (limit 0 s) f))))
-      (decided (ltb (length (places 0 s)) (limit 0 s)))
+      (λ t. (made s w (allowed 0 s)).to_the_end (ltb-true _ _ t))
+      (λ f. nothing_left end.messages (none_loaded (omega (arith, all_allowed, ltb-false (length (places 0 s)) (allowed 0 s) f))))
+      (decided (ltb (length (places 0 s)) (allowed 0 s)))
 
-  of-zero : Unlimited s
-  of-zero = record {
-    nothing_waits = nothing;
-    within_load = all-made.within;
-    count_fits = omega (arith, all-made.within, (load-of-all s.messages).1, few);
-    no_limit = λ more. enough (limit 0 s) more s nothing;
-  }
+  lowers_the_load : (most : ℕ) → length (places_within most s) ≤ load s.messages
+  lowers_the_load most = omega (arith, (made s w most).lowered)
+
+  few_messages : length s.messages ≤ 64
+  few_messages = (well-formed s (is_true _ w)).few_messages
 
 pub unlimited : UnlimitedClaim
-unlimited s w = of-zero s w
+unlimited s w = record {
+  nothing_waits = none-waits s w;
+  no_limit = λ more. enough (allowed 0 s) more s (none-waits s w);
+  within_load = lowers_the_load s w;
+  count_fits = omega (arith, lowers_the_load s w (allowed 0 s), (load-of-all s.messages).1, few_messages s w);
+}
 
 -- ---- its deliveries as calls
 pub run_append : (h : History) (calls more : List Call) → run h (calls ++ more) ≡ run (run h calls) more

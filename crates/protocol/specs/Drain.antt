@@ -31,17 +31,17 @@ places_from rest s (Some place) = place ∷ rest (after_delivery s place)
 -- R8.1: the places of at most so many deliveries, in turn, while a message waits
 abbrev pub places_within : ℕ → State → List ℕ
 places_within zero s = []
-places_within (suc more) s = places_from (places_within more) s (lowest s)
+places_within (suc most) s = places_from (places_within most) s (lowest s)
 
--- R8.1: how many deliveries a budget allows. Of 0 no limit is meant: it allows as many as there can
--- be (R10.9), so that it is the waiting messages that end the drain (R8.4, `UnlimitedClaim`)
-abbrev pub limit : ℕ → State → ℕ
-limit zero s = load s.messages
-limit (suc budget) s = suc budget
+-- R8.1: how many deliveries a budget allows. 0 is no limit: it allows as many as can be made at all
+-- (R10.9), so that the drain ends for want of messages (R8.4, `UnlimitedClaim`)
+abbrev pub allowed : ℕ → State → ℕ
+allowed zero s = load s.messages
+allowed (suc budget) s = suc budget
 
 -- R8.1: the places of the deliveries of a drain with this budget
 abbrev pub places : ℕ → State → List ℕ
-places budget s = places_within (limit budget s) s
+places budget s = places_within (allowed budget s) s
 
 -- R8.1: the network after deliveries at these places
 abbrev pub deliver_all : State → List ℕ → State

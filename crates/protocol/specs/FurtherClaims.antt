@@ -21,7 +21,7 @@ use Rattle.protocol.specs.Answer.{accepted}
 use Rattle.protocol.specs.History.{history}
 use Rattle.protocol.specs.Claim.{Inserted, delivered}
 use Rattle.protocol.specs.Questions.{owner_of}
-use Rattle.protocol.specs.Drain.{places_within, places, deliver_all, drained, drain_of}
+use Rattle.protocol.specs.Drain.{places_within, allowed, places, deliver_all, drained, drain_of}
 
 -- ---- the owner of a serial
 -- R7.4: u is inserted, and the serial is in [key, key of right link)
@@ -54,12 +54,12 @@ AlwaysFound = (calls : List Call) (start serial : ℕ) → ¬ (owner_of (history
 
 -- ---- a drain
 -- R8.1, with this budget: it is its deliveries, none of them refused; no more than a budget that is
--- not 0, and fewer than it only where nothing waits at the end
+-- not 0; and fewer than it allows only where nothing waits at the end
 pub record Drains (s : State) (budget : ℕ) : Type 0 where
   pub result : drain_of s budget ≡ drained s (places budget s)
   pub within_budget : budget ≢ 0 → length (places budget s) ≤ budget
   pub none_refused : delivered s (places budget s) ≡ length (places budget s)
-  pub to_the_end : length (places budget s) < budget → (deliver_all s (places budget s)).messages ≡ []
+  pub to_the_end : length (places budget s) < allowed budget s → (deliver_all s (places budget s)).messages ≡ []
 
 -- R8.1: of every well-formed network, with any budget
 abbrev pub DrainClaim : Type 0
@@ -69,11 +69,11 @@ DrainClaim = (s : State) → T (well_formed s) → (budget : ℕ) → Drains s b
 pub record Unlimited (s : State) : Type 0 where
   -- at the end nothing waits
   pub nothing_waits : (deliver_all s (places 0 s)).messages ≡ []
-  -- no more deliveries are made than R10.9 allows, and two bytes can count them
-  pub within_load : length (places 0 s) ≤ load s.messages
+  -- had more deliveries been allowed, the same would have been made
+  pub no_limit : (more : ℕ) → places_within (allowed 0 s + more) s ≡ places 0 s
+  -- R10.9: however many are allowed, no more are made than the load; and two bytes can count them
+  pub within_load : (most : ℕ) → length (places_within most s) ≤ load s.messages
   pub count_fits : length (places 0 s) < 2 ^ 16
-  -- however many more were allowed, the same would be made
-  pub no_limit : (more : ℕ) → places_within (load s.messages + more) s ≡ places 0 s
 
 -- R8.4: of every well-formed network
 abbrev pub UnlimitedClaim : Type 0

@@ -2,11 +2,12 @@
 //! deliveries.
 #![tactic(auto)]
 
-ghost use Rattle.std.specs.Prelude.{◌≡◌, ◌+◌, ◌%◌, ◌^◌, ◌&&◌, ◌||◌, nat_eq, nat_lt};
+ghost use Rattle.std.specs.Prelude.{◌≡◌, ◌+◌, ◌%◌, ◌^◌};
 ghost use Rattle.refusal.specs.Code.{reason};
 ghost use Rattle.refusal.specs.Rules.{done, no};
 ghost use Rattle.protocol.specs.declared.Reply.TheVariants.{Ran};
 ghost use Rattle.protocol.specs.Answer.{answered};
+ghost use Rattle.report.specs.Going.{goes_on};
 
 use protocol::{Answer, Reply};
 use refusal::Refusal;
@@ -43,7 +44,7 @@ pub struct Tally {
 impl Tally {
     /// Whether a drain goes on (R8.1), with so many messages waiting. A budget of 0 is no limit.
     pub fn goes_on(self, budget: u16, waiting: u8) -> bool
-        ensures { result ≡ ((nat_eq budget 0 || nat_lt self.made budget) && nat_lt 0 waiting) }
+        ensures { result ≡ goes_on budget self.made waiting }
     {
         ((budget == 0) | (self.made < budget)) & (0 < waiting)
     }

@@ -26,17 +26,17 @@ pub(crate) fn ask_all(script: &mut Script, last: u8) {
     }
 }
 
-// From node `last` downwards so many nodes leave again: each hears its answer and asks node 0 to
-// leave, and this request, the last message, is delivered and granted. Each of them adds one to the
-// messages that wait.
-fn leave_again(script: &mut Script, last: u8, leavers: u8)
-    requires { (leavers ≤ last) × (last ≤ 31) }
+/// From node `last` downwards so many nodes leave again: each hears its answer and asks node 0 to
+/// leave, and this request, the last message, is delivered and granted. Each of them adds one to
+/// the messages that wait. Before the notices and answers of the joiners stand so many messages.
+pub(crate) fn leave_again(script: &mut Script, last: u8, leavers: u8, before: u8)
+    requires { (leavers ≤ last) × (last ≤ 31) × (before ≤ 2) }
 {
     for gone in 0..leavers {
         let node = last - gone;
-        script.append(&[b'D', b'L', 2 * node - 1]);
+        script.append(&[b'D', b'L', before + 2 * node - 1]);
         script.append(&[b'L', b'V', node]);
-        script.append(&[b'D', b'L', 2 * last + gone - 1]);
+        script.append(&[b'D', b'L', before + 2 * last + gone - 1]);
     }
 }
 
@@ -66,6 +66,6 @@ pub(crate) fn scene_after<R: Print>(
     declare_all(&mut script);
     ask_all(&mut script, joiners);
     script.append(&[b'R', b'D', joiners, 0]);
-    leave_again(&mut script, joiners, leavers);
+    leave_again(&mut script, joiners, leavers, 0);
     show_on(run, &mut script, text)
 }

@@ -3,7 +3,7 @@
 use crate::Run;
 use std::io;
 
-pub(crate) const MARKS: [&[u8]; 7] = [
+pub(crate) const MARKS: [&[u8]; 9] = [
     // R9.7, R9.8, R1.8: the first line and the last.
     b"the empty script\n",
     // R9.2, R9.5, refusal 1: the declaration after it is not read.
@@ -24,10 +24,17 @@ pub(crate) const MARKS: [&[u8]; 7] = [
       BC\x00\x00\x10\x00\
       PKCR\x00\
       PK",
+    // R8.5, R9.2, refusal 1: the fields that RD has are read as a mark behind PK.
+    b"no 1: PK with the fields of RD\n\
+      PK\x00\x00\
+      BC\x00\x00\x10\x00",
     // R9.5, refusal 2: one byte of PK is too short for a mark.
     b"no 2: one byte of PK\n\
       PK\
       P",
+    // R9.3, R9.5, refusal 2: a budget has two bytes.
+    b"no 2: RD with one byte of its budget\n\
+      RD\x00",
     // R9.5, refusal 2: what is left of the script is too short for the fields.
     b"no 2: a record without its last byte\n\
       BC\x00\x00\x10\x00\

@@ -41,7 +41,7 @@ two-at-least (Owner start serial) = omega arith
 two-at-least (DrainRecord budget) = omega arith
 two-at-least PeekRecord = omega arith
 
--- its mark and its fields are as many
+-- its mark and its fields are no fewer
 whole-record : (mark : Mark) (fields : List ℕ) → least (record_of mark fields) ≤ 2 + size_of mark
 whole-record PackedDeclare fields = omega arith
 whole-record BinaryDeclare fields = omega arith

@@ -1,8 +1,6 @@
 -- `engine::in_place::execute` meets its contract, by the task: a question leaves the network, and
 -- nothing is posted. Assumes nothing.
 use mathlib.Core.Path.{sym, ap, ◌∙◌}
-use Rattle.refusal.specs.Rules.{done}
-use Rattle.protocol.specs.declared.Reply.TheVariants.{Ran}
 use Rattle.engine.specs.Outcomes.{counted}
 use Rattle.std.specs.Prelude.{Ok}
 use Rattle.engine.specs.Computed.{done_on}
@@ -22,6 +20,5 @@ pub returns-in-Peek : goal.returns-in-Peek
 returns-in-Peek c =
     let n = c.args.network.now in
     let is = c.in-Ok.is ∙ ap Ok c.in-Peek.is in
-    peek-told n (record { nodes = c.sizes-in-Peek.ensures.nodes; messages = c.sizes-in-Peek.ensures.messages }) (rw is at c.requires) c.ran.result
-    (c.ran.ensures.0 ∙ ap (λ made. done (Ran made n.waiting)) c.default.ensures.0) (c.ran.ensures.1 ∙ c.default.ensures.1)
+    peek-told n (record { nodes = c.sizes-in-Peek.ensures.nodes; messages = c.sizes-in-Peek.ensures.messages }) (rw is at c.requires) c.peek.result c.peek.ensures.0 c.peek.ensures.1
     ∙ ap (λ t. counted (done_on n t)) (sym is)

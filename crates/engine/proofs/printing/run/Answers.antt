@@ -4,6 +4,7 @@ use Prim.Native.Nat.{◌+◌, ◌≤◌}
 use mathlib.Core.Path.{◌≡◌, ◌∙◌}
 use lib.ListN.{length}
 use Rattle.printout.proofs.Laws.{printed_whole}
+use Rattle.engine.specs.Reached.{text_size}
 use Rattle.engine.proofs.StepOfScript.{State}
 use Rattle.engine.proofs.LoopLaws.{begun, first-turn, has_room, may-step, next-turn, next-cursor, whole-printout}
 use Rattle.engine.proofs.printing.run.Goals as goal
@@ -35,7 +36,7 @@ pub returns : goal.returns
 returns c =
     let x : State = record { kept = c.loop-p.kept; text = c.loop-p.text; progress = c.loop-p.p } in
     let told = c.sizes.ensures in
-    let room : length c.loop-p.text + 40 ≤ 874_000 = has_room c.args.script.now x c.loop-p.invariant c.requires.1 in
+    let room : length c.loop-p.text + 40 ≤ text_size = has_room c.args.script.now x c.loop-p.invariant c.requires.1 in
     c.last_line.ensures.text_after
     ∙ printed_whole _ _ _ room
     ∙ whole-printout c.args.script.now x c.loop-p.invariant c.requires.1 (record { nodes = told.nodes; messages = told.messages }) c.loop-p-test.false

@@ -1,11 +1,8 @@
--- `engine::questions::peek` meets its contract: 6 where the network is not well formed, and else how
--- many messages its lists have. Assumes nothing.
-use mathlib.Core.Path.{◌≡◌, sym, ap, ◌∙◌}
+-- `engine::questions::peek` meets its contract: 6 where the network is not well formed, and else
+-- how many messages its lists have. Assumes nothing.
+use mathlib.Core.Path.{sym, ◌∙◌}
 use mathlib.Core.Logic.{⊎_elim}
 use Rattle.predicates.proofs.TestLaws.{decided}
-use Rattle.protocol.specs.declared.Reply.TheVariants.{Ran}
-use Rattle.refusal.specs.Rules.{done}
-use Rattle.protocol.specs.Answer.{answered}
 use Rattle.network.specs.Arrays.{well_formed}
 use Rattle.network.proofs.Lengths.{lengths}
 use Rattle.engine.specs.Answers.{peek_of}
@@ -16,6 +13,5 @@ pub returns : goal.returns
 unfolding peek_of
 returns c =
     let n = c.args.network in
-    let told : answered c.ran-told.result.answer ≡ done (Ran 0 n.waiting) = c.ran-told.ensures.0 ∙ ap (λ made. done (Ran made n.waiting)) c.default.ensures.0 in
     rw (c.unwrap_or.ensures, c.then_some.ensures, c.is_well_formed.ensures)
-    (⊎_elim (λ h. rw h (told ∙ sym (peeked n (lengths _ _ c.well_formed.0) h))) (λ f. rw f) (decided (well_formed n)))
+    (⊎_elim (λ h. rw h (c.peek.ensures.0 ∙ sym (peeked n (lengths _ _ c.well_formed.0) h))) (λ f. rw f) (decided (well_formed n)))
