@@ -27,6 +27,7 @@ use Rattle.protocol.specs.declared.Reply.TheVariants.{Ran}
 use Rattle.protocol.specs.State.{State, requests, well_formed}
 use Rattle.protocol.specs.Calls.{Result, refused, apply_of}
 use Rattle.protocol.specs.History.{History, start, history}
+use Rattle.protocol.specs.Questions.{peek_of}
 use Rattle.protocol.specs.Drain.{places, drain_of}
 use Rattle.protocol.proofs.Drains.{run_append, drain_is, drain_is_calls, unlimited}
 use Rattle.protocol.proofs.Owners.{always_found}
@@ -36,7 +37,7 @@ use Rattle.script.specs.declared.Record.TheVariants.{Call as CallRecord, Declare
 use Rattle.script.specs.Script.{Read, end, stop, next, read_at}
 use Rattle.script.proofs.Laws.{stops-by}
 use Rattle.printout.specs.Lines.{heading, line_of}
-use Rattle.course.specs.Execution.{field_rules, executing, execute_of}
+use Rattle.course.specs.Execution.{field_rules, saying, executing, execute_of}
 use Rattle.course.proofs.NeverLaws.{never-six, never_31}
 use Rattle.course.specs.Run.{Progress, advanced, after}
 use Rattle.course.specs.Claim.{calls_of, calls_read, script_calls, answer_to, answers_of, lines, ScriptClaim}
@@ -98,6 +99,11 @@ module _ (calls : List Call) where
   unfolding execute_of
   drains-to-the-end =
       (length (places 0 here), rw (is_true (well_formed here) well-formed, drain_is here 0 well-formed, (unlimited here well-formed).nothing_waits))
+
+  -- and PK tells how many messages wait
+  peeks : execute_of here PeekRecord ≡ saying here (done (Ran 0 (length here.messages)))
+  unfolding execute_of peek_of
+  peeks = rw (is_true (well_formed here) well-formed)
 
 -- ---- record by record
 abbrev Sofar : List Call → Progress → Type 0
@@ -177,4 +183,5 @@ script_is_calls script k =
           (λ j. rw (sofar script j).0 (never_31 (script_calls script j))) k;
       found = λ from serial. rw network (always_found (script_calls script k) from serial);
       drained = rw network (drains-to-the-end (script_calls script k));
+      peeked = rw network (peeks (script_calls script k));
     }

@@ -1,7 +1,7 @@
 -- R10.11, what a script does to the network, as a list of calls: after each of its records the
 -- network is the one that these calls make, so all that is claimed of any list of calls holds of
 -- it, and the messages posted are theirs; and what its printout says. Definitions only.
-use Rattle.std.specs.Prelude.{ℕ, zero, suc, ◌≡◌, Ok, Err}
+use Rattle.std.specs.Prelude.{ℕ, zero, suc, ◌≡◌, length, Ok, Err}
 use mathlib.Core.List.{List, [], ◌∷◌, ◌++◌, map, Memᴰ}
 use Rattle.refusal.specs.Code.{plain}
 use Rattle.refusal.specs.Rules.{Coded, done, no}
@@ -19,7 +19,7 @@ use Rattle.script.specs.declared.Record.{Record}
 use Rattle.script.specs.declared.Record.TheVariants.{Call as CallRecord, Declare as DeclareRecord, Owner as OwnerRecord, Drain as DrainRecord, Peek as PeekRecord}
 use Rattle.script.specs.Script.{Read, end, stop, next, read_at}
 use Rattle.printout.specs.Lines.{heading, line_of}
-use Rattle.course.specs.Execution.{execute_of}
+use Rattle.course.specs.Execution.{saying, execute_of}
 use Rattle.course.specs.Run.{after}
 
 -- R10.11: the calls of a record, none where its serial is refused, and none for a question; R10.1:
@@ -78,6 +78,8 @@ pub record Made (script : List ℕ) (k : ℕ) : Type 0 where
   pub found : (start serial : ℕ) → ¬ (owner_of (after script k).state start serial ≡ no (plain 31))
   -- R8.4: a record RD with budget 0 would now be answered that nothing is left
   pub drained : (made : ℕ) × ((execute_of (after script k).state (DrainRecord 0)).said ≡ done (Ran made 0))
+  -- R8.5: and PK how many messages wait; it would change nothing, and post nothing
+  pub peeked : execute_of (after script k).state PeekRecord ≡ saying (after script k).state (done (Ran 0 (length (after script k).state.messages)))
 
 -- R10.11: for every script, whatever its bytes, and after each of its records
 abbrev pub ScriptClaim : Type 0

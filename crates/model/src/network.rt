@@ -296,8 +296,8 @@ impl Network {
         }
     }
 
-    // A budget of 0 is no limit. What is taken from has an end all the same, far behind the last
-    // delivery.
+    // A budget of 0 is no limit. The range has an end all the same, far past the last delivery that
+    // there can be.
     pub(crate) fn drain(&mut self, budget: u16) -> Answer {
         let allowed = if budget == 0 { u16::MAX } else { budget };
         let deliveries = (0..allowed).take_while(|_| self.deliver_lowest()).count();
