@@ -34,7 +34,6 @@ pub(crate) enum Purpose {
     FaultyField = 29,
     NoMark = 30,
     EarlyDeclaration = 31,
-    TightDrain = 32,
     TightBudget = 33,
     Fault = 34,
     StartOfLastQuestion = 35,

@@ -101,8 +101,10 @@ fn is_denied_by_out(line: Line, network: &Network) -> bool {
     }
 }
 
+// A drain with no limit, where messages waited.
 fn is_unlimited(line: Line) -> bool {
-    matches!(line.record, Some(Record::Drain { budget: 0 }))
+    let is_idle = matches!(line.reply, Ok(Answer::Ran { deliveries: 0, .. }));
+    matches!(line.record, Some(Record::Drain { budget: 0 })) && !is_idle
 }
 
 /// Where a script differs first, counted from 1.
@@ -227,7 +229,7 @@ impl fmt::Display for Ledger {
         writeln!(f, "{passed_over} places passed over in drains")?;
         writeln!(f, "{with_both_faults} joins told 25 that met 24 too")?;
         writeln!(f, "{denied_by_out} requests denied by a node that is out")?;
-        writeln!(f, "{unlimited} drains with no limit")?;
+        writeln!(f, "{unlimited} drains with no limit where messages waited")?;
         writeln!(f, "{unfinished} of them left a message waiting")?;
         writeln!(
             f,

@@ -421,7 +421,7 @@ impl Draw<'_> {
         if self.is_early() && throw.one_of(Purpose::EarlyDeclaration, 3) {
             return Piece::Record(Record::Declare(Serial::packed(self.serial())));
         }
-        if self.is_tight() && throw.one_of(Purpose::TightDrain, 2) {
+        if self.is_tight() {
             let budget = throw.below(Purpose::TightBudget, 4) as u16;
             return Piece::Record(Record::Drain { budget });
         }

@@ -94,11 +94,13 @@ module _ (calls : List Call) where
       go None clear = done-so asked clear
       go (Some r) refuses = refused-so asked r refuses
 
-  -- RD with budget 0 leaves nothing
-  drains-to-the-end : (made : ℕ) × ((execute_of here (DrainRecord 0)).said ≡ done (Ran made 0))
+  -- RD with budget 0 leaves nothing waiting, and says so
+  drains-to-the-end : ((execute_of here (DrainRecord 0)).state.messages ≡ []) × ((execute_of here (DrainRecord 0)).said ≡ done (Ran (length (places 0 here)) 0))
   unfolding execute_of
   drains-to-the-end =
-      (length (places 0 here), rw (is_true (well_formed here) well-formed, drain_is here 0 well-formed, (unlimited here well-formed).nothing_waits))
+      let w = is_true (well_formed here) well-formed in
+      let none = (unlimited here well-formed).nothing_waits in
+      (rw (w, drain_is here 0 well-formed, none), rw (w, drain_is here 0 well-formed, none))
 
   -- and PK tells how many messages wait
   peeks : execute_of here PeekRecord ≡ saying here (done (Ran 0 (length here.messages)))
@@ -182,6 +184,7 @@ script_is_calls script k =
       never_31 = none-says 31 refl refl script
           (λ j. rw (sofar script j).0 (never_31 (script_calls script j))) k;
       found = λ from serial. rw network (always_found (script_calls script k) from serial);
-      drained = rw network (drains-to-the-end (script_calls script k));
+      emptied = rw network (drains-to-the-end (script_calls script k)).0;
+      drained = rw network (drains-to-the-end (script_calls script k)).1;
       peeked = rw network (peeks (script_calls script k));
     }

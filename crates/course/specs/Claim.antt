@@ -1,6 +1,7 @@
 -- R10.11, what a script does to the network, as a list of calls: after each of its records the
 -- network is the one that these calls make, so all that is claimed of any list of calls holds of
--- it, and the messages posted are theirs; and what its printout says. Definitions only.
+-- it, and the messages posted are theirs; what its printout says; and what the records RD with
+-- budget 0 and PK would come to then. Definitions only.
 use Rattle.std.specs.Prelude.{ℕ, zero, suc, ◌≡◌, length, Ok, Err}
 use mathlib.Core.List.{List, [], ◌∷◌, ◌++◌, map, Memᴰ}
 use Rattle.refusal.specs.Code.{plain}
@@ -76,9 +77,11 @@ pub record Made (script : List ℕ) (k : ℕ) : Type 0 where
   -- R10.11: nor 31, whoever is asked for
   pub never_31 : ¬ Memᴰ (no (plain 31)) (answers_of script k)
   pub found : (start serial : ℕ) → ¬ (owner_of (after script k).state start serial ≡ no (plain 31))
-  -- R8.4: a record RD with budget 0 would now be answered that nothing is left
-  pub drained : (made : ℕ) × ((execute_of (after script k).state (DrainRecord 0)).said ≡ done (Ran made 0))
-  -- R8.5: and PK how many messages wait; it would change nothing, and post nothing
+  -- R8.4: RD with budget 0, as the next record, would leave nothing waiting, and say so beside the
+  -- deliveries that it makes
+  pub emptied : (execute_of (after script k).state (DrainRecord 0)).state.messages ≡ []
+  pub drained : (execute_of (after script k).state (DrainRecord 0)).said ≡ done (Ran (length (places 0 (after script k).state)) 0)
+  -- R8.5: PK would say how many messages wait; it would change nothing, and post nothing
   pub peeked : execute_of (after script k).state PeekRecord ≡ saying (after script k).state (done (Ran 0 (length (after script k).state.messages)))
 
 -- R10.11: for every script, whatever its bytes, and after each of its records

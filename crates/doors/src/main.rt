@@ -61,7 +61,7 @@ fn refused(network: Network) -> usize {
         is_unchanged(&network, &engine::drain(network, 0)),
         is_unchanged(
             &network,
-            &on_copy(network, |n| engine::drain_in_place(n, 9)),
+            &on_copy(network, |n| engine::drain_in_place(n, 0)),
         ),
         engine::peek(network) == Err(Refusal::Malformed),
         engine::inserted(network) == Err(Refusal::Malformed),

@@ -131,7 +131,7 @@ emptied n w =
     let h = is_true (well_formed n) w in
     let lists = (well-formed n h).lists in
     let u = unlimited (live n) (holds lists) in
-    record { nothing_waits = rw (h, lists, u.nothing_waits); made = length (places 0 (live n)); said = rw (h, lists, u.nothing_waits); within_load = u.within_load (allowed 0 (live n)) }
+    record { nothing_waits = rw (h, lists, u.nothing_waits); said = rw (h, lists, u.nothing_waits); within_load = u.within_load (allowed 0 (live n)) }
 
 module _ (calls : List Call) (budget : ℕ) where
   -- the network that the calls make, drained

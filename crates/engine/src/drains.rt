@@ -7,7 +7,8 @@ use network::Network;
 use refusal::Refusal;
 use report::Report;
 
-/// A drain of any network, where it lies. A budget of 0 is no limit: it ends where nothing waits.
+/// A drain of any network, where it lies. A budget of 0 is no limit: then a drain that is not
+/// refused leaves nothing waiting.
 pub fn drain_in_place(network: &mut Network, budget: u16) -> Report
     ensures { reported network.new result ≡ counted (drain_of network.old budget) }
 {

@@ -17,9 +17,9 @@ use text::Page;
 /// R9.1: how long a script may be.
 pub const SIZE_LIMIT: usize = 65_536;
 
-/// How many bytes the text of a printout has room for, forty for three bytes of a script: PK has two
-/// bytes, and its line twenty at most; any other record has three or more, and its line forty at
-/// most.
+/// How many bytes the text of a printout has room for, forty for three bytes of a script: PK has
+/// two bytes, and its line twenty at most; any other record has three or more, and its line forty
+/// at most.
 pub const TEXT_SIZE: usize = 874_000;
 
 // What a run keeps from record to record: what the program will keep beside the network belongs

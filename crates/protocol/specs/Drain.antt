@@ -33,8 +33,9 @@ abbrev pub places_within : ℕ → State → List ℕ
 places_within zero s = []
 places_within (suc most) s = places_from (places_within most) s (lowest s)
 
--- R8.1: how many deliveries a budget allows. 0 is no limit: it allows as many as can be made at all
--- (R10.9), so that the drain ends for want of messages (R8.4, `UnlimitedClaim`)
+-- R8.1: how many deliveries a budget allows. 0 is no limit: it allows the load, and no more can be
+-- made of a well-formed network (R10.9), so that a drain of one ends for want of messages (R8.4,
+-- `UnlimitedClaim`)
 abbrev pub allowed : ℕ → State → ℕ
 allowed zero s = load s.messages
 allowed (suc budget) s = suc budget

@@ -1,6 +1,7 @@
--- A network as the lists of its nodes and of its waiting messages (paper 01: a floor), what these
--- come to in deliveries, when it is well formed (in shape), and which of its nodes are inserted. The
--- lists may have any length; the limits are clauses of well-formedness. Definitions only.
+-- A network as the lists of its nodes and of its waiting messages (paper 01: a floor), how many
+-- deliveries these come to at most, when it is well formed (in shape), and which of its nodes are
+-- inserted. The lists may have any length; the limits are clauses of well-formedness. Definitions
+-- only.
 use Rattle.std.specs.Prelude.{ℕ, ◌+◌, ◌*◌, Bool, true, false, not, ◌&&◌, ◌||◌, List, [], length, get_or, ltb, leb, eqb}
 use Rattle.predicates.specs.Tests.{count, any, every, every_below}
 use Rattle.sequence.specs.Sequence.{is_seq}
@@ -68,7 +69,7 @@ ack_waits s u = any (is_ack_to u) s.messages
 abbrev pub notice_waits : State → ℕ → Bool
 notice_waits s u = any (is_notice_to u) s.messages
 
--- ---- how many deliveries the waiting messages may come to
+-- ---- how many deliveries the waiting messages come to at most
 -- R10.9, R10.16: how many SetR are among messages
 abbrev pub requests : List Message → ℕ
 requests ms = count (λ m. is_request m.kind) ms

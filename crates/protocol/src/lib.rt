@@ -25,8 +25,8 @@ pub enum Call {
 }
 
 /// What is answered where nothing is refused: to a declaration; to any other call, by what the node
-/// did; to the question for an owner; to a drain, and to the question how many messages wait; and to
-/// the question who is inserted, as a word with bit n for node n and the number of its ones.
+/// did; to the question for an owner; to a drain, and to the question how many messages wait; and
+/// to the question who is inserted, as a word with bit n for node n and the number of its ones.
 #[derive(Clone, Copy, Debug, PartialEq, Eq)]
 pub enum Reply {
     Declared { number: u8, key: u32 },

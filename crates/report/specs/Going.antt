@@ -1,5 +1,6 @@
--- No rules stand here: it is what the code asks before each delivery of a drain. That it then makes
--- the deliveries which the budget allows (R8.1) is proved in the crate `engine`. Definitions only.
+-- No rules stand here: it is what the code asks before each delivery of a drain. What a budget
+-- allows is said by R8.1, and `not-spent` and `stops` (`engine/proofs/DrainLaws`) show that a drain
+-- which asks this makes as many deliveries. Definitions only.
 use Rattle.std.specs.Prelude.{ℕ, Bool, ◌&&◌, ◌||◌, eqb, ltb}
 
 -- with so many deliveries made and so many messages waiting

@@ -10,10 +10,10 @@ pub(crate) fn cases<R: Print>(run: &mut Run<R>) -> io::Result<()> {
           BC\x00\x00\x12\x34",
     )?;
     full_network(run)?;
-    // R6.10, R8.5, refusal 28: nodes 29 and 1 ask node 0 to leave, and 64 messages wait, as PK says.
-    // The request of 29, which is the right neighbour of 0, would be granted, that of 1 denied. The
-    // first is refused before and after the second is delivered; with one message less it is
-    // granted.
+    // R6.10, R8.5, refusal 28: nodes 29 and 1 ask node 0 to leave, and 64 messages wait, as PK
+    // says. The request of 29, which is the right neighbour of 0, would be granted, that of 1
+    // denied. The first is refused before and after the second is delivered; with one message less
+    // it is granted.
     crowd::scene_after(
         run,
         31,
