@@ -2,4 +2,5 @@ pub mod RecordLaws
 pub mod NeverLaws
 pub mod ScriptLaws
 pub mod Theorem
+pub mod OwnershipLaws
 pub mod Example

@@ -1,3 +1,4 @@
 pub mod Execution
 pub mod Run
 pub mod Claim
+pub mod Ownership

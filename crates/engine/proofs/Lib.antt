@@ -4,6 +4,7 @@ pub mod StepLaws
 pub mod CallLaws
 pub mod DrainLaws
 pub mod RingLaws
+pub mod OwnershipLaws
 pub mod Example
 pub mod RecordLaws
 pub mod TaskLaws

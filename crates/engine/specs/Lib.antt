@@ -5,3 +5,4 @@ pub mod Computed
 pub mod Reached
 pub mod Accounts
 pub mod Emptied
+pub mod Ownership

@@ -4,5 +4,6 @@ pub mod Places
 pub mod Trails
 pub mod Circuit
 pub mod Owner
+pub mod Passing
 pub mod Change
 pub mod Example

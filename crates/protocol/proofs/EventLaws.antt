@@ -45,7 +45,7 @@ use Rattle.protocol.proofs.Theorem.{good-next, good, listed-inserted}
 abbrev Holds : State → (ℕ → Bool) → Type 0
 Holds s told = Round (node_at s) s.messages told
 
-ordered : (s : State) {told : ℕ → Bool} (o : Holds s told) → Ordered s o.order
+pub ordered : (s : State) {told : ℕ → Bool} (o : Holds s told) → Ordered s o.order
 ordered s o = record { ring = o.ring; members = listed-inserted s o }
 
 -- a list of the inserted nodes, ascending by the keys that they had, is their order

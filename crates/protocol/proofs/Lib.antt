@@ -25,8 +25,10 @@ pub mod Steps
 pub mod Theorem
 pub mod EventLaws
 pub mod Owners
+pub mod Ownership
 pub mod Members
 pub mod Example
 pub mod EventExample
+pub mod OwnershipExample
 pub mod Posted
 pub mod JoinOrder

@@ -9,4 +9,6 @@ pub mod Example
 pub mod Questions
 pub mod Drain
 pub mod FurtherClaims
+pub mod Ownership
+pub mod OwnershipExample
 pub mod JoinOrder

@@ -1,6 +1,6 @@
 //! The sheets of the folder `examples`, one record to a line. There each record has a comment that
 //! says what it does, and beside each sheet stands its printout, which is the same.
-pub(crate) const ALL: [&[u8]; 7] = [
+pub(crate) const ALL: [&[u8]; 8] = [
     // R5.5, R5.9, R5.11: node 0 asks to leave before it has heard of its left neighbour, and so
     // asks and denies itself.
     b"paper\n\
@@ -68,6 +68,53 @@ pub(crate) const ALL: [&[u8]; 7] = [
       DL\x00\
       LV\x00\
       OC\x00\x00\x00\x25\x00",
+    // R7.5, R7.6, R7.7: who owns what before and after a creation, two joins, three leaves, and
+    // records that move nothing, asked from each start.
+    b"who-owns-what\n\
+      BC\x00\x00\x10\x00\
+      BC\x00\x00\x20\x00\
+      BC\x00\x00\x30\x00\
+      OC\x00\x00\x00\x25\x00\
+      CR\x00\
+      OC\x00\x00\x00\x25\x00\
+      OC\x00\x00\x00\x09\x99\
+      JN\x02\x00\x00\
+      RD\x00\x00\
+      OC\x00\x00\x00\x19\x99\
+      OC\x00\x00\x00\x20\x00\
+      OC\x00\x00\x00\x29\x99\
+      OC\x00\x00\x00\x30\x00\
+      OC\x00\x00\x00\x09\x99\
+      JN\x01\x00\x02\
+      OC\x00\x00\x00\x20\x00\
+      DL\x00\
+      OC\x00\x00\x00\x19\x99\
+      OC\x00\x00\x00\x20\x00\
+      OC\x00\x00\x00\x29\x99\
+      OC\x00\x00\x00\x30\x00\
+      OC\x00\x00\x00\x09\x99\
+      OC\x01\x00\x00\x20\x00\
+      OC\x02\x00\x00\x20\x00\
+      RD\x00\x00\
+      OC\x00\x00\x00\x20\x00\
+      JN\x01\x00\x02\
+      OC\x00\x00\x00\x20\x00\
+      LV\x02\
+      OC\x00\x00\x00\x30\x00\
+      DL\x00\
+      OC\x00\x00\x00\x30\x00\
+      OC\x00\x00\x00\x09\x99\
+      OC\x00\x00\x00\x10\x00\
+      OC\x00\x00\x00\x19\x99\
+      OC\x00\x00\x00\x20\x00\
+      OC\x02\x00\x00\x30\x00\
+      RD\x00\x00\
+      LV\x00\
+      DL\x00\
+      OC\x01\x00\x00\x10\x00\
+      RD\x00\x00\
+      LV\x01\
+      OC\x01\x00\x00\x10\x00",
     // R5.3, R5.13, R6.7, R6.13, refusals 24 and 25: two old notices to node 0 are under way when it
     // wants to come back, between the wrong neighbours.
     b"back-too-early\n\
