@@ -1,6 +1,7 @@
 //! What came of all scripts: how often each mark had each answer; after how many records the model
-//! found its accounts out of balance, or a node with another exchange than its status asks for; how
-//! many drains with no limit left a message waiting; and whether any script differed.
+//! found its accounts out of balance, a node with another exchange than its status asks for, or a key
+//! with another owner than the calls tell; how many drains with no limit left a message waiting; and
+//! whether any script differed.
 use arrayvec::ArrayVec;
 use model::answer::{Answer, Outcome, Refusal};
 use model::network::Network;
@@ -130,6 +131,8 @@ pub(crate) struct Ledger {
     unfinished: usize,
     unbalanced: usize,
     mismatched: usize,
+    passed_keys: usize,
+    owned_otherwise: usize,
     differing: usize,
     first_difference: Option<Difference>,
 }
@@ -183,18 +186,22 @@ impl Ledger {
         if !network.has_exchanges_by_status() {
             self.mismatched = self.mismatched.saturating_add(1);
         }
+        if !network.owners_are_as_told() {
+            self.owned_otherwise = self.owned_otherwise.saturating_add(1);
+        }
     }
 
     /// Enters a script that both have printed.
     pub(crate) fn enter_script(
         &mut self,
         printed: usize,
-        passed_over: usize,
+        network: &Network,
         difference: Option<Difference>,
     ) {
         self.scripts = self.scripts.saturating_add(1);
         self.printed = self.printed.saturating_add(printed);
-        self.passed_over = self.passed_over.saturating_add(passed_over);
+        self.passed_over = self.passed_over.saturating_add(network.passed_over());
+        self.passed_keys = self.passed_keys.saturating_add(network.passed_keys());
         if difference.is_some() {
             self.differing = self.differing.saturating_add(1);
             self.first_difference = self.first_difference.or(difference);
@@ -219,6 +226,8 @@ impl fmt::Display for Ledger {
             unfinished,
             unbalanced,
             mismatched,
+            passed_keys,
+            owned_otherwise,
             differing,
             ..
         } = self;
@@ -238,6 +247,11 @@ impl fmt::Display for Ledger {
         writeln!(
             f,
             "{mismatched} records after which exchanges and statuses differ"
+        )?;
+        writeln!(f, "{passed_keys} keys passed on by grants")?;
+        writeln!(
+            f,
+            "{owned_otherwise} records after which a key has another owner than told"
         )?;
         writeln!(f, "{differing} scripts differed")?;
         if let Some(Difference { script, byte }) = self.first_difference {

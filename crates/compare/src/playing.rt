@@ -137,10 +137,7 @@ impl Match {
             script: ordinal,
             byte,
         });
-        self.ledger.enter_script(
-            theirs.len(),
-            self.player.network().passed_over(),
-            difference,
-        );
+        self.ledger
+            .enter_script(theirs.len(), self.player.network(), difference);
     }
 }

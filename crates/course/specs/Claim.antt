@@ -39,10 +39,15 @@ calls_read s end = []
 calls_read s (stop r) = []
 calls_read s (next asked c) = calls_of s asked
 
--- R10.11: the calls of the first k records of a script
+-- R10.11: the calls of the record that comes after the first k of a script; past the last there are
+-- none
+abbrev pub next_calls : List ℕ → ℕ → List Call
+next_calls script k = calls_read (after script k).state (read_at script (after script k).at)
+
+-- R10.11: the calls of the first k records
 abbrev pub script_calls : List ℕ → ℕ → List Call
 script_calls script zero = []
-script_calls script (suc k) = script_calls script k ++ calls_read (after script k).state (read_at script (after script k).at)
+script_calls script (suc k) = script_calls script k ++ next_calls script k
 
 -- R9.7: the answer to what is read at a cursor; at the end there is none
 abbrev pub answer_to : State → Read → List (Coded Reply)

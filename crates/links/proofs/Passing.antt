@@ -1,7 +1,7 @@
 -- Who owns a key before and after some links of a ring changed, for any number of members. A member
--- whose right link is as it was owns what it owned. There is one owner before and one after; so
--- where one node owns the key both times nothing moved, and a change at p moves only what p owns
--- before or after. Assumes nothing.
+-- whose right link is as it was owns what it owned. There is one owner before and one after; so a
+-- key that one node owns both times did not pass, and where only p is relinked, of those that are in
+-- both rings, what passes p owns before or after. Assumes nothing.
 use mathlib.Core.Path.{◌≡◌, sym, ◌∙◌}
 use mathlib.Core.Logic.{◌↔◌, ◌≢◌}
 use mathlib.Core.List.{List}
@@ -22,8 +22,8 @@ module _ {key : ℕ → ℕ} {right : ℕ → Link} {L : List ℕ} (ring : Ring 
   pub has-owner : {s : ℕ} → s ∈ L → (d : ℕ) → (o : ℕ) × Has key right L d o
   has-owner i d = let o = owner ring i d in (o.node, (o.member, o.owns))
 
-  pub one-owner : {d a b : ℕ} → Has key right L d a → Has key right L d b → a ≡ b
-  one-owner {d} h k = let o = owner ring h.0 d in o.only _ h.0 h.1 ∙ sym (o.only _ k.0 k.1)
+  pub owners-agree : {d a b : ℕ} → Has key right L d a → Has key right L d b → a ≡ b
+  owners-agree {d} h k = let o = owner ring h.0 d in o.only _ h.0 h.1 ∙ sym (o.only _ k.0 k.1)
 
 -- ---- from one ring to another, in which those of both have the keys that they had
 abbrev pub SameKeys : (ℕ → ℕ) → (ℕ → ℕ) → List ℕ → List ℕ → Type 0
@@ -39,7 +39,7 @@ carried ring ring' keys {d} {m} i same (j, o) =
 module _ {key key' : ℕ → ℕ} {right right' : ℕ → Link} {L M : List ℕ} (ring : Ring key right L) (ring' : Ring key' right' M) (keys : SameKeys key key' L M) where
   -- one node that owns d both times
   agreed : {d m : ℕ} → Has key right L d m → Has key' right' M d m → (u : ℕ) → Has key' right' M d u ↔ Has key right L d u
-  agreed h h' u = (λ k. rw (one-owner ring' k h') h, λ k. rw (one-owner ring k h) h')
+  agreed h h' u = (λ k. rw (owners-agree ring' k h') h, λ k. rw (owners-agree ring k h) h')
 
   carried-on : {d m : ℕ} → m ∈ M → right' m ≡ right m → Has key right L d m → Has key' right' M d m
   carried-on = carried ring ring' keys
@@ -54,10 +54,10 @@ module _ {key key' : ℕ → ℕ} {right right' : ℕ → Link} {L M : List ℕ}
 
   -- p is in both, and of those in both only p has another link
   module _ (p : ℕ) (was : p ∈ L) (is : p ∈ M) (others : (u : ℕ) → u ∈ L → u ∈ M → u ≢ p → right' u ≡ right u) where
-    -- who owns d now was there, and who owned it is there still: it did not move
-    pub unmoved : {d : ℕ} → ((u : ℕ) → Has key' right' M d u → u ∈ L) → ((u : ℕ) → Has key right L d u → u ∈ M)
+    -- who owns d now was there, and who owned it is there still
+    pub not-passed : {d : ℕ} → ((u : ℕ) → Has key' right' M d u → u ∈ L) → ((u : ℕ) → Has key right L d u → u ∈ M)
         → (u : ℕ) → Has key' right' M d u ↔ Has key right L d u
-    unmoved {d} old still = go (has-owner ring was d) (has-owner ring' is d)
+    not-passed {d} old still = go (has-owner ring was d) (has-owner ring' is d)
       where
         go : (o : ℕ) × Has key right L d o → (o : ℕ) × Has key' right' M d o → (u : ℕ) → Has key' right' M d u ↔ Has key right L d u
         go (a, h) (b, h') = by-p (ℕ_discrete a p) (ℕ_discrete b p)
@@ -78,7 +78,7 @@ module _ {key key' : ℕ → ℕ} {right right' : ℕ → Link} {L M : List ℕ}
             by-p (yes e) = rw e at h
             by-p (no n) =
                 let i = stay a h.0 in
-                absurd (new (rw (one-owner ring' (carried-on i (others a h.0 i n) h) h') at h.0))
+                absurd (new (rw (owners-agree ring' (carried-on i (others a h.0 i n) h) h') at h.0))
 
 -- one who is not there any more owned d: p owns it
 pub to-p : {key key' : ℕ → ℕ} {right right' : ℕ → Link} {L M : List ℕ} → Ring key right L → Ring key' right' M → SameKeys key key' L M

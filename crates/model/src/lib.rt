@@ -5,6 +5,7 @@
 
 pub mod answer;
 pub mod network;
+mod owners;
 pub mod printing;
 pub mod reading;
 pub mod rules;

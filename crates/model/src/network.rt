@@ -2,6 +2,7 @@
 //! or a delivery comes to is found first, with the network untouched; then the step is taken, if it
 //! is not refused.
 use crate::answer::{Answer, Outcome, Refusal};
+use crate::owners::Owners;
 use crate::rules::{Kind, Message, Node, Status};
 use arrayvec::ArrayVec;
 use std::iter;
@@ -37,6 +38,7 @@ pub struct Network {
     granted: usize,
     denied: usize,
     passed_over: usize,
+    owners: Owners,
 }
 
 impl Network {
@@ -124,6 +126,37 @@ impl Network {
         self.posted == answered.saturating_add(requests)
     }
 
+    /// How many keys passed from one node to another.
+    pub fn passed_keys(&self) -> usize {
+        self.owners.passed()
+    }
+
+    // Of this node's key every inserted node says that its owner is the one told; if there is none
+    // to ask, nobody is told.
+    fn is_owned_as_told(&self, node: u8) -> bool {
+        let told = self.owners.of(node);
+        let key = self.node(node).key;
+        let mut starts = (0..self.declared_nodes()).filter(|start| self.is_inserted(*start));
+        match told {
+            Some(_) => starts.all(|start| self.owner_from(start, key).map(|(_, owner)| owner)
+                == told),
+            None => starts.next().is_none(),
+        }
+    }
+
+    /// Who owns which key is as told by what came of the calls.
+    pub fn owners_are_as_told(&self) -> bool {
+        self.owners.are_all_passed_on_by_their_owners()
+            && (0..self.declared_nodes()).all(|node| self.is_owned_as_told(node))
+    }
+
+    // The owner of a serial, if anybody can be asked.
+    fn owner_of(&self, serial: u32) -> Option<u8> {
+        let start = (0..self.declared_nodes()).find(|start| self.is_inserted(*start))?;
+        let (_, owner) = self.owner_from(start, serial)?;
+        Some(owner)
+    }
+
     pub(crate) fn declare(&mut self, key: u32) -> Result<Answer, Refusal> {
         if self.nodes.is_full() {
             return Err(Refusal::NoRoom);
@@ -132,6 +165,8 @@ impl Network {
             return Err(Refusal::KeyTaken);
         }
         let node = self.declared_nodes();
+        let owner = self.owner_of(key);
+        self.owners.add(owner);
         self.nodes.push(Node {
             key,
             ..Node::default()
@@ -267,15 +302,42 @@ impl Network {
         match step.outcome {
             Outcome::Granted => self.granted = self.granted.saturating_add(1),
             Outcome::Denied => self.denied = self.denied.saturating_add(1),
+            Outcome::Created => self.owners.give_all(Some(step.node)),
+            Outcome::Out => self.owners.give_all(None),
             _ => {}
         }
         step.outcome
     }
 
+    // A granted request moves keys: to a joiner those from its own up to that of its right link,
+    // which the granter had, and from a leaver all that it has, to the granter.
+    fn pass_keys(&mut self, request: &Message) {
+        let Message {
+            sender,
+            addressee,
+            ..
+        } = *request;
+        let asker = self.node(sender);
+        let end = self.node(asker.right).key;
+        for node in 0..self.declared_nodes() {
+            if request.is_join() {
+                if holds(asker.key, end, self.node(node).key) {
+                    self.owners.pass(node, addressee, sender);
+                }
+            } else if self.owners.of(node) == Some(sender) {
+                self.owners.pass(node, sender, addressee);
+            }
+        }
+    }
+
     pub(crate) fn deliver(&mut self, place: usize) -> Result<Outcome, Refusal> {
         let step = self.delivery(place)?;
-        self.messages.pop_at(place);
-        Ok(self.take(step))
+        let message = self.messages.pop_at(place);
+        let outcome = self.take(step);
+        if let (Outcome::Granted, Some(request)) = (outcome, message) {
+            self.pass_keys(&request);
+        }
+        Ok(outcome)
     }
 
     // Delivers at the first place from 0 that does not refuse, and says whether there was one.

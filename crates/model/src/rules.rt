@@ -47,7 +47,7 @@ pub struct Message {
 }
 
 impl Message {
-    fn is_join(&self) -> bool {
+    pub(crate) fn is_join(&self) -> bool {
         self.link == self.sender
     }
 

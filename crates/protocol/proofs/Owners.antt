@@ -27,17 +27,25 @@ use Rattle.links.proofs.Lists.{few-below}
 use Rattle.links.proofs.Trails.{same_end, move-to}
 use Rattle.links.proofs.Circuit.{linked-in, next-in}
 use Rattle.links.proofs.Owner.{KeyOwner, owner, reaches}
+use Rattle.links.proofs.Passing.{Has}
 use Rattle.parts.specs.Tests.{Link}
 use Rattle.protocol.specs.declared.Reply.TheVariants.{Owner}
 use Rattle.protocol.specs.State.{State, declared, node_at, key_at, right_at, well_formed, inserted}
 use Rattle.protocol.specs.History.{history}
 use Rattle.protocol.specs.Claim.{Inserted}
 use Rattle.protocol.specs.Questions.{Walk, found, walked, owner_at, owner_from, owner_rules, owner_of, hop_limit}
-use Rattle.protocol.specs.FurtherClaims.{FindsOwner, OwnerClaim, AlwaysFound}
+use Rattle.protocol.specs.FurtherClaims.{Owns, FindsOwner, OwnerClaim, AlwaysFound}
 use Rattle.protocol.proofs.Nodes.{declared_unless_out}
 use Rattle.protocol.proofs.Facts.{tested}
 use Rattle.protocol.proofs.Frames.{member_not_out}
 use Rattle.protocol.proofs.Theorem.{good, listed-inserted}
+
+-- who owns a serial, in the words of the ring that the inserted nodes are
+pub owns-as : {s : State} {L : List ℕ} → ((u : ℕ) → (u ∈ L) ↔ Inserted s u) → (serial u : ℕ) → Owns s serial u ↔ Has (key_at s) (right_at s) L serial u
+owns-as member serial u = (
+  λ o. ((member u).1 o.inserted, record { next = o.next; link = o.right; within = (within_iff _ _ _).0 o.holds }),
+  λ h. record { inserted = (member u).0 h.0; next = h.1.next; right = h.1.link; holds = (within_iff _ _ _).1 h.1.within },
+)
 
 -- ---- the search follows the walk
 -- asked at u, with some hops made, the search says m; and the hops that it added are moves from u
@@ -118,13 +126,8 @@ module _ (s : State) (well-formed : T (well_formed s)) {L : List ℕ} (ring : Ri
         node = o.node;
         hops = f.added;
         answer = let all-added : f.added + 0 ≡ f.added = omega arith in clear ∙ ap walked f.answer ∙ ap (λ (k : ℕ). done (Owner o.node k)) all-added;
-        owns = record {
-          inserted = (member o.node).0 o.member;
-          next = o.owns.next;
-          right = o.owns.link;
-          holds = (within_iff _ _ _).1 o.owns.within;
-        };
-        only = λ u w. o.only u ((member u).1 w.inserted) (record { next = w.next; link = w.right; within = (within_iff _ _ _).0 w.holds });
+        owns = (owns-as member serial o.node).1 (o.member, o.owns);
+        only = λ u w. let (i, d) = (owns-as member serial u).0 w in o.only u i d;
         reached = f.reached;
         first = f.earlier;
       }

@@ -1,9 +1,9 @@
--- Who owns which serial after each call, and what the call moved. Both go by the order of the
+-- Who owns which serial after each call, and what the call passed on. Both go by the order of the
 -- inserted nodes and by what the call's event did to it; no case of a call is looked at again. The
 -- ring before and the ring after have one owner each for a serial, and but for the two nodes that
 -- the event names every right link is as it was (`links`, `Passing`). Assumes nothing.
 use Rattle.std.specs.Prelude.{Option, None, Some}
-use mathlib.Core.Path.{◌≡◌, refl, ap, ◌∙◌}
+use mathlib.Core.Path.{◌≡◌, refl}
 use mathlib.Core.Logic.{inl, inr, ⊎_elim, ◌↔◌, ◌≢◌}
 use mathlib.Core.List.{List, [], ◌∷◌, map}
 use Prim.Native.Nat.{ℕ}
@@ -20,7 +20,7 @@ use Rattle.interval.proofs.Laws.{within-self, within_iff}
 use Rattle.links.specs.Ring.{with_member, without_member}
 use Rattle.links.proofs.Trails.{same_end}
 use Rattle.links.proofs.Owner.{owner}
-use Rattle.links.proofs.Passing.{Has, SameKeys, all-kept, unmoved, from-p, to-p}
+use Rattle.links.proofs.Passing.{Has, SameKeys, all-kept, not-passed, from-p, to-p}
 use Rattle.protocol.specs.declared.Call.{Call}
 use Rattle.protocol.specs.declared.Call.TheVariants.{Deliver}
 use Rattle.protocol.specs.declared.Reply.{Reply}
@@ -38,16 +38,12 @@ use Rattle.protocol.proofs.Drains.{run_append, drain_is_calls}
 use Rattle.protocol.proofs.Steps.{Good}
 use Rattle.protocol.proofs.Theorem.{good-next, good}
 use Rattle.protocol.proofs.EventLaws.{ordered, next-happened}
-use Rattle.protocol.proofs.Owners.{owner_found}
+use Rattle.protocol.proofs.Owners.{owns-as, owner_found}
 
 -- ---- one owner
 module _ {s : State} {L : List ℕ} (k : Ordered s L) where
-  -- who owns a serial, in the words of the ring
   has : (serial u : ℕ) → Owns s serial u ↔ Has (key_at s) (right_at s) L serial u
-  has serial u = (
-    λ o. ((k.members u).1 o.inserted, record { next = o.next; link = o.right; within = (within_iff _ _ _).0 o.holds }),
-    λ h. record { inserted = (k.members u).0 h.0; next = h.1.next; right = h.1.link; holds = (within_iff _ _ _).1 h.1.within },
-  )
+  has = owns-as k.members
 
   one_owner : (w : ℕ) → Inserted s w → (serial : ℕ) → OneOwner s serial
   one_owner w t serial =
@@ -59,35 +55,35 @@ module _ {s : State} {L : List ℕ} (k : Ordered s L) where
       }
 
 -- the question names this owner, and from an inserted start alone
-module _ (calls : List Call) (start serial u : ℕ) where
+module _ (calls : List Call) (from serial u : ℕ) where
   abbrev s : State
   s = (history calls).state
 
-  asked-there : Names (owner_of s start serial) u → Inserted s start × (T (in_range serial) × Owns s serial u)
+  asked-there : Names (owner_of s from serial) u → Inserted s from × (T (in_range serial) × Owns s serial u)
   unfolding owner_of
-  asked-there (hops, said) = go (first (owner_rules s start serial)) refl said
+  asked-there (hops, said) = go (first (owner_rules s from serial)) refl said
     where
-      go : (o : Option Reason) → first (owner_rules s start serial) ≡ o → unless_refused o no (walked (owner_from s serial (hop_limit s) start 0)) ≡ done (Owner u hops)
-          → Inserted s start × (T (in_range serial) × Owns s serial u)
+      go : (o : Option Reason) → first (owner_rules s from serial) ≡ o → unless_refused o no (walked (owner_from s serial (hop_limit s) from 0)) ≡ done (Owner u hops)
+          → Inserted s from × (T (in_range serial) × Owns s serial u)
       go None clear f =
-          let (_, (_, (ranged, (member, _)))) = cleared (owner_rules s start serial) clear in
-          let t = holds (not-false (inserted s start) member) in
+          let (_, (_, (ranged, (member, _)))) = cleared (owner_rules s from serial) clear in
+          let t = holds (not-false (inserted s from) member) in
           let r = holds (not-false (in_range serial) ranged) in
-          let finds = owner_found calls start serial t r in
+          let finds = owner_found calls from serial t r in
           let e : finds.node ≡ u = cc in
           (t, (r, rw e at finds.owns))
       go (Some n) refuses f = impossible cc
 
-  named-there : Inserted s start × (T (in_range serial) × Owns s serial u) → Names (owner_of s start serial) u
-  named-there (t, (r, owns)) = let finds = owner_found calls start serial t r in (finds.hops, rw (finds.only u owns) finds.answer)
+  named-there : Inserted s from × (T (in_range serial) × Owns s serial u) → Names (owner_of s from serial) u
+  named-there (t, (r, owns)) = let finds = owner_found calls from serial t r in (finds.hops, rw (finds.only u owns) finds.answer)
 
 owned : (calls : List Call) → Owned (history calls).state (owner_of (history calls).state)
 owned calls = record {
   one_owner = one_owner (ordered (history calls).state (good calls).invariant.order);
-  named = λ start serial u. (asked-there calls start serial u, named-there calls start serial u);
+  named = λ from serial u. (asked-there calls from serial u, named-there calls from serial u);
 }
 
--- ---- what each event moves
+-- ---- what each event passes on
 module _ {s s' : State} {L M : List ℕ} (k : Ordered s L) (k' : Ordered s' M) where
   same-owner : {serial : ℕ} → ((u : ℕ) → Has (key_at s') (right_at s') M serial u ↔ Has (key_at s) (right_at s) L serial u) → SameOwner s s' serial
   same-owner {serial} both u = let was = has k serial u in let is = has k' serial u in (λ o. was.1 ((both u).0 (is.0 o)), λ o. is.1 ((both u).1 (was.0 o)))
@@ -117,7 +113,7 @@ module _ {s s' : State} {L : List ℕ} (k : Ordered s L) where
     next = e.next;
     right = e.right_of_v;
     none_before = λ serial o. e.new o.inserted;
-    moved = moved;
+    passed = passed;
     kept = kept;
   }
     where
@@ -136,8 +132,8 @@ module _ {s s' : State} {L : List ℕ} (k : Ordered s L) where
       rights : (u : ℕ) → u ∈ L → u ∈ with_member (key_at s) v L → u ≢ p → right_at s' u ≡ right_at s u
       rights u i j = e.rights u ((k.members u).0 i)
 
-      moved : (serial : ℕ) → T (within (key_at s' v) (key_at s' e.next) serial) → Passes s s' serial p v
-      moved serial holds =
+      passed : (serial : ℕ) → T (within (key_at s' v) (key_at s' e.next) serial) → Passes s s' serial p v
+      passed serial holds =
           let now : Owns s' serial v = record { inserted = (e.inserted v).1 (inr refl); next = e.next; right = e.right_of_v; holds = holds } in
           let from = from-p k.ring k'.ring keys p was (stay p was) rights stay (λ i. e.new ((k.members v).0 i)) ((has k' serial v).0 now) in
           ((has k serial p).1 from, now)
@@ -151,10 +147,15 @@ module _ {s s' : State} {L : List ℕ} (k : Ordered s L) where
 
       kept : (serial : ℕ) → ¬ T (within (key_at s' v) (key_at s' e.next) serial) → SameOwner s s' serial
       kept serial out = same-owner k k'
-          (unmoved k.ring k'.ring keys p was (stay p was) rights (λ u h. old out u ((has k' serial u).1 h)) (λ u h. stay u h.0))
+          (not-passed k.ring k'.ring keys p was (stay p was) rights (λ u h. old out u ((has k' serial u).1 h)) (λ u h. stay u h.0))
 
   by_leave : {v p : ℕ} → Releases s s' v p → ByLeave s s' v p
-  by_leave {v} {p} e = record { moved = moved; kept = kept; none_after = λ serial o. ((e.inserted v).0 o.inserted).1 refl }
+  by_leave {v} {p} e = record {
+    own_key = (has k (key_at s v) v).1 ((k.members v).1 e.leaver, record { next = e.next; link = e.right_of_v; within = inl refl });
+    passed = passed;
+    kept = kept;
+    none_after = λ serial o. ((e.inserted v).0 o.inserted).1 refl;
+  }
     where
       k' : Ordered s' (without_member v L)
       k' = e.order L k
@@ -174,13 +175,13 @@ module _ {s s' : State} {L : List ℕ} (k : Ordered s L) where
       old : (u : ℕ) → u ∈ without_member v L → u ∈ L
       old u j = (k.members u).1 ((e.inserted u).0 ((k'.members u).0 j)).0
 
-      moved : (serial : ℕ) → Owns s serial v → Passes s s' serial v p
-      moved serial o =
+      passed : (serial : ℕ) → Owns s serial v → Passes s s' serial v p
+      passed serial o =
           let gone : ¬ (v ∈ without_member v L) = λ j. ((e.inserted v).0 ((k'.members v).0 j)).1 refl in
           (o, (has k' serial p).1 (to-p k.ring k'.ring keys p was is rights old gone ((has k serial v).0 o)))
 
       kept : (serial : ℕ) → ¬ Owns s serial v → SameOwner s s' serial
-      kept serial none = same-owner k k' (unmoved k.ring k'.ring keys p was is rights (λ u h. old u h.0) still)
+      kept serial none = same-owner k k' (not-passed k.ring k'.ring keys p was is rights (λ u h. old u h.0) still)
         where
           still : (u : ℕ) → Has (key_at s) (right_at s) L serial u → u ∈ without_member v L
           still u h =
@@ -212,15 +213,15 @@ pub turns : (calls more : List Call) → InTurn (history calls) more
 turns calls = in_turn (history calls) (good calls)
 
 -- asked in another way that gives the same answers
-pub asked_alike : {s : State} {asked asked' : ℕ → ℕ → Coded Reply} → ((start serial : ℕ) → asked' start serial ≡ asked start serial) → Owned s asked → Owned s asked'
-asked_alike same o = record { one_owner = o.one_owner; named = λ start serial u. rw (same start serial) (o.named start serial u) }
+pub asked_alike : {s : State} {asked asked' : ℕ → ℕ → Coded Reply} → ((from serial : ℕ) → asked' from serial ≡ asked from serial) → Owned s asked → Owned s asked'
+asked_alike same o = record { one_owner = o.one_owner; named = λ from serial u. rw (same from serial) (o.named from serial u) }
 
 pub ownership : OwnershipClaim
 ownership calls = record {
   owned = owned calls;
   next_call = λ call. rw (run_append start calls (call ∷ [])) (transferred calls call);
   next_drain = λ budget. record {
-    state = (drain_is_calls calls budget).state ∙ ap (λ (h : History). h.state) (run_append start calls (map Deliver (places budget (history calls).state)));
+    state = (drain_is_calls calls budget).state;
     in_turn = turns calls (map Deliver (places budget (history calls).state));
   };
 }

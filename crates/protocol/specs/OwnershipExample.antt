@@ -1,4 +1,4 @@
--- R9.10, 02 (iv): a list of calls in which nodes are let in and released, and who owns six serials
+-- R7.5, R7.6: a list of calls in which nodes are let in and released, and who owns six serials
 -- after each of them, asked from each of the three nodes. `proofs/OwnershipExample.antt` shows by
 -- computation that the definitions say so. Definitions only.
 use Rattle.std.specs.Prelude.{ℕ, List, [], ◌∷◌, map, Option, None, Some}

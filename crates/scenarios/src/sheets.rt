@@ -69,7 +69,7 @@ pub(crate) const ALL: [&[u8]; 8] = [
       LV\x00\
       OC\x00\x00\x00\x25\x00",
     // R7.5, R7.6, R7.7: who owns what before and after a creation, two joins, three leaves, and
-    // records that move nothing, asked from each start.
+    // records by which no serial passes, asked from each start.
     b"who-owns-what\n\
       BC\x00\x00\x10\x00\
       BC\x00\x00\x20\x00\
