@@ -1,7 +1,7 @@
 //! What came of all scripts: how often each mark had each answer; after how many records the model
-//! found its accounts out of balance, a node with another exchange than its status asks for, or a key
-//! with another owner than the calls tell; how many drains with no limit left a message waiting; and
-//! whether any script differed.
+//! found its accounts out of balance, a node with another exchange than its status asks for, or a
+//! key with another owner than the calls tell; how many drains with no limit left a message
+//! waiting; and whether any script differed.
 use arrayvec::ArrayVec;
 use model::answer::{Answer, Outcome, Refusal};
 use model::network::Network;

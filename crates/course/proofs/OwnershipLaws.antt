@@ -28,7 +28,7 @@ use Rattle.course.specs.Claim.{next_calls, script_calls}
 use Rattle.course.specs.Ownership.{ScriptOwnershipClaim}
 use Rattle.course.proofs.Theorem.{script_is_calls}
 
--- what a question does is nothing, and so is what a refusal does
+-- where what is asked changes nothing, neither does its refusal
 still : (s : State) (asked : Record) → (executing s asked).state ≡ s → (execute_of s asked).state ≡ s
 unfolding execute_of
 still s asked same = go (first ((6 when not (well_formed s)) ∷ field_rules s asked))
@@ -37,7 +37,7 @@ still s asked same = go (first ((6 when not (well_formed s)) ∷ field_rules s a
     go None = same
     go (Some r) = refl
 
--- an owner record says what the question says: 5 once more, and then its other rules
+-- an owner record tests 5, and then asks the question, which tests 5 again
 five_once_more : (s : State) (known : Bool) (rest : List Rule) (walk : Coded Reply)
     → (ruled ((5 when not known) ∷ []) (refused s) (saying s (ruled ((5 when not known) ∷ rest) no walk))).said ≡ ruled ((5 when not known) ∷ rest) no walk
 five_once_more s true rest walk = refl

@@ -17,11 +17,12 @@ pub record ScriptOwnership (script : List ℕ) (k : ℕ) : Type 0 where
   pub network : (after script k).state ≡ (history (script_calls script k)).state
   -- R7.5: as an owner record would be answered
   pub owned : Owned (after script k).state (λ start serial. (execute_of (after script k).state (Owner start (Ok serial))).said)
-  -- R7.7: whatever it asks, and whether it is refused or not, it changes nothing; nor does PK
+  -- R7.7: an owner record changes nothing, whatever it asks, refused or not; nor does PK (as
+  -- `ScriptClaim` has it)
   pub owner_changes_nothing : (start : ℕ) (serial : Result ℕ SerialError) → (execute_of (after script k).state (Owner start serial)).state ≡ (after script k).state
   pub peek_changes_nothing : (execute_of (after script k).state Peek).state ≡ (after script k).state
-  -- R7.7: what the next record passes on its calls pass on, in turn: a question has none, a drain has
-  -- its deliveries. They lead where it leads (`network`, after k + 1 records)
+  -- R7.7: what the next record passes on, its calls pass on, in turn: a question has none, a drain
+  -- has its deliveries. They lead where it leads (`network`, after k + 1 records)
   pub in_turn : InTurn (history (script_calls script k)) (next_calls script k)
 
 -- R7.5, R7.7: for every script, whatever its bytes, and after each of its records

@@ -1,7 +1,7 @@
 -- Who owns which serial on the arrays of a network that calls by value make, and which serials the
--- next call or drain passes on: the arrays hold the lists that the same calls make, the question for
--- an owner says of them what it says of the lists, and what a call or a drain leaves holds the lists
--- that it leaves there. Assumes nothing.
+-- next call or drain passes on: the arrays hold the lists that the same calls make, the question
+-- for an owner says of them what it says of the lists, and what a call or a drain leaves holds the
+-- lists that it leaves there. Assumes nothing.
 use mathlib.Core.Path.{◌≡◌, sym, ap, subst, ◌∙◌}
 use mathlib.Core.Bool.{true}
 use mathlib.Core.List.{List, ◌++◌, map}

@@ -15,8 +15,8 @@ use Rattle.network.specs.Arrays.{live, empty}
 use Rattle.engine.specs.Outcomes.{apply_of, drain_of, run}
 use Rattle.engine.specs.Answers.{owner_of}
 
--- R10.3: what a call by value did, by its answer; of whom the last order that was not refused was a
--- join, `joins` says
+-- R10.3: what a call by value did, by its answer; `joins` says of whom the last join or leave that
+-- was not refused was a join
 abbrev pub happened_on : Network → (ℕ → Bool) → Call → Event
 happened_on n joins call = event_of (live n) joins call (apply_of n call).said
 

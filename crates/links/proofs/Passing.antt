@@ -1,7 +1,7 @@
 -- Who owns a key before and after some links of a ring changed, for any number of members. A member
 -- whose right link is as it was owns what it owned. There is one owner before and one after; so a
--- key that one node owns both times did not pass, and where only p is relinked, of those that are in
--- both rings, what passes p owns before or after. Assumes nothing.
+-- key that one node owns both times did not pass, and where, of those in both rings, only p is
+-- relinked, a key that passes is p's before or after. Assumes nothing.
 use mathlib.Core.Path.{◌≡◌, sym, ◌∙◌}
 use mathlib.Core.Logic.{◌↔◌, ◌≢◌}
 use mathlib.Core.List.{List}
@@ -52,12 +52,12 @@ module _ {key key' : ℕ → ℕ} {right right' : ℕ → Link} {L M : List ℕ}
       → (d u : ℕ) → Has key' right' M d u ↔ Has key right L d u
   all-kept to back same d u = (λ h. let i = back u h.0 in carried-back i (same u i) h, λ h. carried-on (to u h.0) (same u h.0) h)
 
-  -- p is in both, and of those in both only p has another link
-  module _ (p : ℕ) (was : p ∈ L) (is : p ∈ M) (others : (u : ℕ) → u ∈ L → u ∈ M → u ≢ p → right' u ≡ right u) where
-    -- who owns d now was there, and who owned it is there still
-    pub not-passed : {d : ℕ} → ((u : ℕ) → Has key' right' M d u → u ∈ L) → ((u : ℕ) → Has key right L d u → u ∈ M)
+  -- of those in both only p has another link
+  module _ (p : ℕ) (others : (u : ℕ) → u ∈ L → u ∈ M → u ≢ p → right' u ≡ right u) where
+    -- who owns d now was there, and who owned it is there still: d did not pass
+    pub not-passed : p ∈ L → p ∈ M → {d : ℕ} → ((u : ℕ) → Has key' right' M d u → u ∈ L) → ((u : ℕ) → Has key right L d u → u ∈ M)
         → (u : ℕ) → Has key' right' M d u ↔ Has key right L d u
-    not-passed {d} old still = go (has-owner ring was d) (has-owner ring' is d)
+    not-passed was is {d} old still = go (has-owner ring was d) (has-owner ring' is d)
       where
         go : (o : ℕ) × Has key right L d o → (o : ℕ) × Has key' right' M d o → (u : ℕ) → Has key' right' M d u ↔ Has key right L d u
         go (a, h) (b, h') = by-p (ℕ_discrete a p) (ℕ_discrete b p)
@@ -68,8 +68,8 @@ module _ {key key' : ℕ → ℕ} {right right' : ℕ → Link} {L M : List ℕ}
             by-p (yes e) (yes f) = agreed (rw e at h) (rw f at h')
 
     -- one who was not there owns d now: p owned it
-    pub from-p : {d v : ℕ} → ((u : ℕ) → u ∈ L → u ∈ M) → ¬ (v ∈ L) → Has key' right' M d v → Has key right L d p
-    from-p {d} {v} stay new h' = go (has-owner ring was d)
+    pub from-p : p ∈ L → {d v : ℕ} → ((u : ℕ) → u ∈ L → u ∈ M) → ¬ (v ∈ L) → Has key' right' M d v → Has key right L d p
+    from-p was {d} {v} stay new h' = go (has-owner ring was d)
       where
         go : (o : ℕ) × Has key right L d o → Has key right L d p
         go (a, h) = by-p (ℕ_discrete a p)
@@ -82,6 +82,6 @@ module _ {key key' : ℕ → ℕ} {right right' : ℕ → Link} {L M : List ℕ}
 
 -- one who is not there any more owned d: p owns it
 pub to-p : {key key' : ℕ → ℕ} {right right' : ℕ → Link} {L M : List ℕ} → Ring key right L → Ring key' right' M → SameKeys key key' L M
-    → (p : ℕ) → p ∈ L → p ∈ M → ((u : ℕ) → u ∈ L → u ∈ M → u ≢ p → right' u ≡ right u)
+    → (p : ℕ) → ((u : ℕ) → u ∈ L → u ∈ M → u ≢ p → right' u ≡ right u) → p ∈ M
     → {d v : ℕ} → ((u : ℕ) → u ∈ M → u ∈ L) → ¬ (v ∈ M) → Has key right L d v → Has key' right' M d p
-to-p ring ring' keys p was is others = from-p ring' ring (λ m j k. sym (keys m k j)) p is was (λ u i j n. sym (others u j i n))
+to-p ring ring' keys p others = from-p ring' ring (λ m j k. sym (keys m k j)) p (λ u i j n. sym (others u j i n))

@@ -131,17 +131,15 @@ impl Network {
         self.owners.passed()
     }
 
-    // Of this node's key every inserted node says that its owner is the one told; if there is none
-    // to ask, nobody is told.
+    // Every inserted node names the owner told of this node's key; and an owner is told exactly if a
+    // node is inserted.
     fn is_owned_as_told(&self, node: u8) -> bool {
         let told = self.owners.of(node);
         let key = self.node(node).key;
         let mut starts = (0..self.declared_nodes()).filter(|start| self.is_inserted(*start));
-        match told {
-            Some(_) => starts.all(|start| self.owner_from(start, key).map(|(_, owner)| owner)
-                == told),
-            None => starts.next().is_none(),
-        }
+        let is_anybody_asked = (0..self.declared_nodes()).any(|start| self.is_inserted(start));
+        told.is_some() == is_anybody_asked
+            && starts.all(|start| self.owner_from(start, key).map(|(_, owner)| owner) == told)
     }
 
     /// Who owns which key is as told by what came of the calls.
@@ -150,11 +148,13 @@ impl Network {
             && (0..self.declared_nodes()).all(|node| self.is_owned_as_told(node))
     }
 
-    // The owner of a serial, if anybody can be asked.
-    fn owner_of(&self, serial: u32) -> Option<u8> {
-        let start = (0..self.declared_nodes()).find(|start| self.is_inserted(*start))?;
-        let (_, owner) = self.owner_from(start, serial)?;
-        Some(owner)
+    // The owner told of a key that no node has: that of the next key below it, round the end, since
+    // an interval begins with a key of a node.
+    fn told_owner_of(&self, key: u32) -> Option<u8> {
+        let below = (0..self.declared_nodes()).min_by_key(|node| key.wrapping_sub(
+            self.node(*node).key,
+        ))?;
+        self.owners.of(below)
     }
 
     pub(crate) fn declare(&mut self, key: u32) -> Result<Answer, Refusal> {
@@ -165,7 +165,7 @@ impl Network {
             return Err(Refusal::KeyTaken);
         }
         let node = self.declared_nodes();
-        let owner = self.owner_of(key);
+        let owner = self.told_owner_of(key);
         self.owners.add(owner);
         self.nodes.push(Node {
             key,
@@ -309,7 +309,7 @@ impl Network {
         step.outcome
     }
 
-    // A granted request moves keys: to a joiner those from its own up to that of its right link,
+    // A granted request passes keys on: to a joiner those from its own up to that of its right link,
     // which the granter had, and from a leaver all that it has, to the granter.
     fn pass_keys(&mut self, request: &Message) {
         let Message {

@@ -1,5 +1,6 @@
 //! Who owns the nodes' keys, told by what came of the calls as request (iv) of paper 02 has it, and
-//! by no walk: what the walk along right links finds must be the same.
+//! by no walk: what a walk along right links finds must be the same. Keys are enough: any other
+//! serial has the owner of the next key below it, round the end.
 use arrayvec::ArrayVec;
 
 /// Who owns the key of each node, if anybody does.
@@ -21,7 +22,7 @@ impl Owners {
         self.passed
     }
 
-    /// Each time it was the owner who passed it on.
+    /// Whether each key that passed was passed on by its owner.
     pub(crate) fn are_all_passed_on_by_their_owners(&self) -> bool {
         self.strays == 0
     }

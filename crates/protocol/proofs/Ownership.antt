@@ -135,7 +135,7 @@ module _ {s s' : State} {L : List ℕ} (k : Ordered s L) where
       passed : (serial : ℕ) → T (within (key_at s' v) (key_at s' e.next) serial) → Passes s s' serial p v
       passed serial holds =
           let now : Owns s' serial v = record { inserted = (e.inserted v).1 (inr refl); next = e.next; right = e.right_of_v; holds = holds } in
-          let from = from-p k.ring k'.ring keys p was (stay p was) rights stay (λ i. e.new ((k.members v).0 i)) ((has k' serial v).0 now) in
+          let from = from-p k.ring k'.ring keys p rights was stay (λ i. e.new ((k.members v).0 i)) ((has k' serial v).0 now) in
           ((has k serial p).1 from, now)
 
       -- who owns it now was there: v owns only what lies in its interval
@@ -147,7 +147,7 @@ module _ {s s' : State} {L : List ℕ} (k : Ordered s L) where
 
       kept : (serial : ℕ) → ¬ T (within (key_at s' v) (key_at s' e.next) serial) → SameOwner s s' serial
       kept serial out = same-owner k k'
-          (not-passed k.ring k'.ring keys p was (stay p was) rights (λ u h. old out u ((has k' serial u).1 h)) (λ u h. stay u h.0))
+          (not-passed k.ring k'.ring keys p rights was (stay p was) (λ u h. old out u ((has k' serial u).1 h)) (λ u h. stay u h.0))
 
   by_leave : {v p : ℕ} → Releases s s' v p → ByLeave s s' v p
   by_leave {v} {p} e = record {
@@ -178,10 +178,10 @@ module _ {s s' : State} {L : List ℕ} (k : Ordered s L) where
       passed : (serial : ℕ) → Owns s serial v → Passes s s' serial v p
       passed serial o =
           let gone : ¬ (v ∈ without_member v L) = λ j. ((e.inserted v).0 ((k'.members v).0 j)).1 refl in
-          (o, (has k' serial p).1 (to-p k.ring k'.ring keys p was is rights old gone ((has k serial v).0 o)))
+          (o, (has k' serial p).1 (to-p k.ring k'.ring keys p rights is old gone ((has k serial v).0 o)))
 
       kept : (serial : ℕ) → ¬ Owns s serial v → SameOwner s s' serial
-      kept serial none = same-owner k k' (not-passed k.ring k'.ring keys p was is rights (λ u h. old u h.0) still)
+      kept serial none = same-owner k k' (not-passed k.ring k'.ring keys p rights was is (λ u h. old u h.0) still)
         where
           still : (u : ℕ) → Has (key_at s) (right_at s) L serial u → u ∈ without_member v L
           still u h =

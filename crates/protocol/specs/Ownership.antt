@@ -1,8 +1,8 @@
 -- R7.5, R7.6, R7.7, 02 (iv): who owns which serial after each call of a list, and which serials
--- passed from one node to another by the call (02: moved). It is claimed of every list of calls and
--- of what comes next; it is stated here in full, and cites no proof. A serial is any number here, in
--- range or not: only the question asks for the range, since it refuses any other (4). Definitions
--- only.
+-- passed from one node to another by the call (02: moved). It is claimed of every list of calls
+-- and of what comes next; it is stated here in full, and cites no proof. A serial is any number
+-- here, in range or not: only the question asks for the range, since it refuses any other (4).
+-- Definitions only.
 use Rattle.std.specs.Prelude.{◌≡◌, ◌↔◌, ℕ, T, Some}
 use mathlib.Core.List.{List, [], ◌∷◌, ◌++◌, map}
 use Rattle.refusal.specs.Rules.{Coded, done}
@@ -31,8 +31,8 @@ pub record OneOwner (s : State) (serial : ℕ) : Type 0 where
 abbrev pub Names : Coded Reply → ℕ → Type 0
 Names said u = (hops : ℕ) × (said ≡ done (Owner u hops))
 
--- R7.5: what is owned in s, where `asked` is what the question for an owner answers, from a start and
--- for a serial
+-- R7.5: what is owned in s, where `asked` is what the question for an owner answers, from a start
+-- and for a serial
 pub record Owned (s : State) (asked : ℕ → ℕ → Coded Reply) : Type 0 where
   -- while a node is inserted, each serial has one owner
   pub one_owner : (w : ℕ) → Inserted s w → (serial : ℕ) → OneOwner s serial
@@ -48,8 +48,8 @@ Passes s s' serial a b = Owns s serial a × Owns s' serial b
 abbrev pub SameOwner : State → State → ℕ → Type 0
 SameOwner s s' serial = (u : ℕ) → Owns s' serial u ↔ Owns s serial u
 
--- R7.6, a join of v granted by p: v owned nothing, and gets from p the serials from its own key up to
--- the key of its right link; no other serial passes
+-- R7.6, a join of v granted by p: v owned nothing, and gets from p the serials from its own key up
+-- to the key of its right link; no other serial passes
 pub record ByJoin (s s' : State) (v p : ℕ) : Type 0 where
   pub next : ℕ
   pub right : right_at s' v ≡ Some next
@@ -91,8 +91,8 @@ abbrev pub InTurn : History → List Call → Type 0
 InTurn h [] = Unit {0}
 InTurn h (call ∷ calls) = Transfers h.state (advanced h call).state (happened h call) × InTurn (advanced h call) calls
 
--- R7.7, a drain after these calls: it leads where they lead with its deliveries at their end, and
--- each of these in turn passes on what its event says
+-- R7.7, a drain after these calls: it leads where they lead with its deliveries at their end (as
+-- `DrainIsCalls` has it), and each of these in turn passes on what its event says
 pub record ByDrain (calls : List Call) (budget : ℕ) : Type 0 where
   pub state : (drain_of (history calls).state budget).state ≡ (history (calls ++ map Deliver (places budget (history calls).state))).state
   pub in_turn : InTurn (history calls) (map Deliver (places budget (history calls).state))
