@@ -5,6 +5,8 @@
 //! word of the inserted nodes.
 #![tactic(auto)]
 
+ghost use Rattle.std.specs.Prelude.{◌≤◌};
+
 mod faults;
 mod random;
 
@@ -37,7 +39,9 @@ fn on_copy<F: FnOnce(&mut Network) -> Report>(mut network: Network, change: F) -
 }
 
 // How many of the doors answer 6 and leave the network as it was.
-fn refused(network: Network) -> usize {
+fn refused(network: Network) -> usize
+    ensures { result ≤ 15 }
+{
     let calls = [
         Call::Order(Order::Declare(5_000)),
         Call::Order(Order::Create(0)),

@@ -1,11 +1,11 @@
 -- The clauses of a network's well-formedness, as the code tests them: on the first so many places of
 -- each array, as many as it has, and on the rest of it. Assumes nothing.
-use mathlib.Core.Path.{◌≡◌, refl, ap, ◌∙◌}
+use mathlib.Core.Path.{◌≡◌, refl, ap}
 use mathlib.Core.Bool.{not, ◌&&◌}
 use mathlib.Core.List.{List, [], ◌∷◌}
 use Prim.Native.Nat.{ℕ, zero, suc, ◌-◌, ◌≤◌, ◌<◌}
 use native.Mathlib.Omega.{arith}
-use lib.ListN.{length, take, drop, length-take, length-drop}
+use lib.ListN.{length, get_or, take, drop, length-take, length-drop}
 use lib.Seq.{take-length}
 use lib.Dec.{leb, eqb}
 use borrow.Author.Tests.{le-leb}
@@ -16,15 +16,19 @@ use Rattle.node.specs.Shape.{declared_of, node_fits, capacity}
 use Rattle.protocol.specs.State.{State, queue_limit, node_at, is_exchange_of, exchanges, node_is_well_formed, well_formed as lists_are_well_formed}
 use Rattle.network.specs.declared.Network.{Network}
 use Rattle.network.specs.Arrays.{is_vacant_node, is_vacant_message, live, well_formed}
+use Rattle.network.specs.Walks.{node_with}
 use Rattle.network.proofs.Lengths.{Lengths}
 use Rattle.network.proofs.Places.{every-below}
 
--- one node among the others
-pub node-tested : (s : State) (u : ℕ) (node : Node) → u < length s.nodes → node ≡ node_at s u
-    → (node_fits (length s.nodes) node && (every (λ other. not (eqb other.key node.key)) (take u s.nodes) && leb (count (is_exchange_of u) s.messages) (exchanges node.status))) ≡ node_is_well_formed s u
-node-tested s u node k same =
-    ap (λ (x : Node). node_fits (length s.nodes) x && (every (λ other. not (eqb other.key x.key)) (take u s.nodes) && leb (count (is_exchange_of u) s.messages) (exchanges x.status))) same
-    ∙ rw (every-below (λ (other : Node). not (eqb other.key (node_at s u).key)) (declared_of 0) s.nodes u (omega arith)) refl
+-- one node among the others, with so many exchanges
+pub node-read : (nodes : List Node) (counted u : ℕ) (node : Node) → node ≡ get_or nodes u (declared_of 0)
+    → (node_fits (length nodes) node && (every (λ other. not (eqb other.key node.key)) (take u nodes) && leb counted (exchanges node.status))) ≡ node_with nodes counted u
+node-read nodes counted u node same =
+    ap (λ (x : Node). node_fits (length nodes) x && (every (λ other. not (eqb other.key x.key)) (take u nodes) && leb counted (exchanges x.status))) same
+
+-- and where they are those that wait
+pub node-tested : (s : State) (u counted : ℕ) → u < length s.nodes → counted ≡ count (is_exchange_of u) s.messages → node_with s.nodes counted u ≡ node_is_well_formed s u
+node-tested s u counted k e = rw (e, every-below (λ (other : Node). not (eqb other.key (node_at s u).key)) (declared_of 0) s.nodes u (omega arith)) refl
 
 -- what is left of an array of m places behind its first elements, as a slice of it
 pub rest : {A : Type 0} (l : List A) (n m : ℕ) → length l ≡ m → take (m - length (take n l)) (drop (length (take n l)) l) ≡ drop n l

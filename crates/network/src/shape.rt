@@ -1,19 +1,29 @@
 //! Well-formedness of a network (docs/RULES.md, section 2), clause by clause.
-ghost use Rattle.std.specs.Prelude.{◌≡◌, not, ◌<◌, ◌≤◌, eqb, length};
+ghost use Rattle.std.specs.Prelude.{◌≡◌, ℕ, not, ◌<◌, ◌≤◌, eqb, get_or, length};
 ghost use Rattle.predicates.specs.Tests.{count, every, every_below};
 ghost use Rattle.parts.specs.Shape.{message_fits};
 ghost use Rattle.protocol.specs.State.{is_exchange_of, exchanges, node_is_well_formed};
 ghost use Rattle.network.specs.Arrays.{is_vacant_node, is_vacant_message, well_formed};
+ghost use Rattle.network.specs.Walks.{party_by, node_with};
 
-use crate::{CAPACITY, Network, QUEUE_LIMIT, VACANT_MESSAGE, VACANT_NODE};
+use crate::{CAPACITY, Network, QUEUE_LIMIT, VACANT_MESSAGE};
 use node::Node;
-use parts::{Kind, Message, Status};
+use parts::{Kind, Link, Message, Status};
 
-#[tactic(auto, unfolding(sequence::specs::Sequence::first_seq, sequence::specs::Sequence::same))]
+// R2.3: field by field, since which numbers are the same `sequence` says.
+fn is_vacant_node(node: &Node) -> bool
+    ensures { result ≡ is_vacant_node node.now }
+{
+    (node.status == Status::Out)
+        & ((node.key == 0)
+            & ((node.left.is_none() & node.right.is_none())
+                & (sequence::is_same(node.lseq, sequence::first()) & node.rseq.is_none())))
+}
+
 fn are_vacant_nodes(nodes: &[Node]) -> bool
     ensures { result ≡ every is_vacant_node nodes.now }
 {
-    nodes.iter().all(|node| *node == VACANT_NODE)
+    nodes.iter().all(|node| is_vacant_node(node))
 }
 
 // Not one function with the last: over a type parameter its contract would go by the `==` of the
@@ -39,28 +49,34 @@ fn key_is_new(nodes: &[Node], key: u32) -> bool
 
 // R2.7: whose exchange a message is: the sender's of a request, the addressee's of an answer, and
 // nobody's of a notice.
-fn is_exchange_of(message: &Message, number: u8) -> bool
-    ensures { result ≡ is_exchange_of number message.now }
+fn party(message: &Message) -> Link
+    ensures { result ≡ party_by message.now.kind message.now }
 {
     match message.kind {
-        Kind::SetR { .. } => message.sender == number,
-        Kind::SetRAck { .. } | Kind::SetRNak => message.to == number,
-        Kind::SetL { .. } => false,
+        Kind::SetR { .. } => Some(message.sender),
+        Kind::SetRAck { .. } | Kind::SetRNak => Some(message.to),
+        Kind::SetL { .. } => None,
     }
 }
 
-#[tactic(auto, using(predicates::proofs::TestLaws::count_is_count_by))]
-fn exchanges_of(messages: &[Message], number: u8) -> usize
-    ensures { result ≡ count (is_exchange_of number) messages.now }
+// How many exchanges each node has, counted in one walk over the messages.
+fn exchanges_of(messages: &[Message]) -> [u8; 32]
+    requires { length messages.now ≤ 64 }
+    ensures { (u : ℕ) → u < 32 → get_or result u 0 ≡ count (is_exchange_of u) messages.now }
 {
-    messages
-        .iter()
-        .filter(|message| is_exchange_of(message, number))
-        .count()
+    let mut exchanges = [0u8; 32];
+    for message in messages {
+        if let Some(number) = party(message) {
+            if number < CAPACITY {
+                exchanges[number as usize] += 1;
+            }
+        }
+    }
+    exchanges
 }
 
 // R2.7: how many exchanges a node of this status may have.
-fn exchanges_allowed(status: Status) -> usize
+fn exchanges_allowed(status: Status) -> u8
     ensures { result ≡ exchanges status }
 {
     match status {
@@ -69,25 +85,25 @@ fn exchanges_allowed(status: Status) -> usize
     }
 }
 
-// A node among all, with all the messages that wait. Here and below they are the two slices, and
-// not the network: that would cut its arrays again for each node.
-fn node_is_well_formed(nodes: &[Node], messages: &[Message], number: usize) -> bool
+// A node among all, which has so many exchanges. Here and below the nodes and the messages are two
+// slices, and not the network: that would cut its arrays again for each node.
+fn node_is_well_formed(nodes: &[Node], exchanges: u8, number: usize) -> bool
     requires { (number < length nodes.now) × (length nodes.now ≤ 32) }
-    ensures { result ≡ node_is_well_formed (record { nodes = nodes.now; messages = messages.now }) number }
+    ensures { result ≡ node_with nodes.now exchanges number }
 {
     let node = nodes[number];
     node.fits(nodes.len() as u8)
-        & (key_is_new(&nodes[..number], node.key)
-            & (exchanges_of(messages, number as u8) <= exchanges_allowed(node.status)))
+        & (key_is_new(&nodes[..number], node.key) & (exchanges <= exchanges_allowed(node.status)))
 }
 
 // Not by `all`: what it ensures of a range did not lead to the definition.
 fn nodes_are_well_formed(nodes: &[Node], messages: &[Message]) -> bool
-    requires { length nodes.now ≤ 32 }
+    requires { (length nodes.now ≤ 32) × (length messages.now ≤ 64) }
     ensures { result ≡ every_below (length nodes.now) (node_is_well_formed (record { nodes = nodes.now; messages = messages.now })) }
 {
+    let exchanges = exchanges_of(messages);
     for number in 0..nodes.len() {
-        if !node_is_well_formed(nodes, messages, number) {
+        if !node_is_well_formed(nodes, exchanges[number], number) {
             return false;
         }
     }
@@ -101,7 +117,7 @@ impl Network {
         let nodes = self.declared();
         let messages = self.queue();
         ((self.count <= CAPACITY) & (self.waiting <= QUEUE_LIMIT))
-            & ((are_vacant_nodes(&self.nodes[nodes.len()..])
+            && ((are_vacant_nodes(&self.nodes[nodes.len()..])
                 & are_vacant_messages(&self.messages[messages.len()..]))
                 & (nodes_are_well_formed(nodes, messages)
                     & messages_fit(messages, nodes.len() as u8)))

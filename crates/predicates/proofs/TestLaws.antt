@@ -1,8 +1,8 @@
 -- What the tests over a list, and over the numbers below a bound, say of each member, and what they
 -- give for a list put together from parts: by going through the list. Assumes nothing.
-use mathlib.Core.Path.{◌≡◌, refl, ap, ◌∙◌}
+use mathlib.Core.Path.{◌≡◌, refl, sym, ap, ◌∙◌}
 use mathlib.Core.Logic.{◌⊎◌, inl, inr, ⊎_elim}
-use mathlib.Core.Bool.{Bool, true, false, ◌&&◌, ◌||◌, and_assoc, and-true, cond}
+use mathlib.Core.Bool.{Bool, true, false, ◌&&◌, ◌||◌, and_assoc, and-true, and-false, cond}
 use mathlib.Core.List.Memᴰ.{head as here}
 use mathlib.Core.List.Memᴰ.{tail as there}
 use mathlib.Core.List.{List, [], ◌∷◌, ◌++◌, Memᴰ}
@@ -10,7 +10,7 @@ use Prim.Native.Nat.{ℕ, zero, suc, ◌+◌, ◌≤◌, ◌<◌}
 use native.Mathlib.Omega.{arith}
 use native.Mathlib.Decide.{ℕ_discrete}
 use lib.Dec.{T}
-use lib.ListN.{length, take, get_or}
+use lib.ListN.{length, take, drop, get_or, take-append-drop}
 use lib.Seq.{take-suc}
 use Rattle.std.specs.List.{count_by}
 use Rattle.std.proofs.lemmas.List.Recursion.{is_count_by}
@@ -93,6 +93,13 @@ module _ {A : Type 0} (test : A → Bool) where
   pub every_take : (l : List A) (i : ℕ) (d : A) → i < length l → every test (take (suc i) l) ≡ (every test (take i l) && test (get_or l i d))
   every_take l i d k = rw (take-suc l i d k, every_append, and-true)
 
+  pub count-take : (l : List A) (i : ℕ) (d : A) → i < length l → count test (take (suc i) l) ≡ count test (take i l) + bit (test (get_or l i d))
+  count-take l i d k = rw (take-suc l i d k, count-append test) (omega arith)
+
+  -- a beginning has no more that pass
+  pub count-more : (l : List A) (i : ℕ) → count test (take i l) ≤ count test l
+  count-more l i = omega (arith, count-append test (take i l) (drop i l), ap (count test) (take-append-drop i l))
+
 -- ---- the numbers below a bound
 pub below_at : (n : ℕ) (test : ℕ → Bool) → every_below n test ≡ true → (i : ℕ) → i < n → test i ≡ true
 below_at zero test h i k = absurd (omega arith)
@@ -110,6 +117,19 @@ below_all (suc n) test f = rw (below_all n test (λ i k. f i (omega arith))) (f 
 
 pub below_fails : (n : ℕ) (test : ℕ → Bool) (i : ℕ) → i < n → test i ≡ false → every_below n test ≡ false
 below_fails n test i k f = ⊎_elim (λ h. absurd (not-both (below_at n test h i k) f)) (λ e. e) (decided (every_below n test))
+
+pub below_agree : (n : ℕ) (f g : ℕ → Bool) → ((i : ℕ) → i < n → f i ≡ g i) → every_below n f ≡ every_below n g
+below_agree zero f g same = refl
+below_agree (suc n) f g same = rw (same n (omega arith), below_agree n f g (λ i k. same i (omega arith)))
+
+and_regroup : (p q r s : Bool) → ((p && q) && (r && s)) ≡ ((p && r) && (q && s))
+and_regroup true true r s = refl
+and_regroup true false r s = sym (and-false r)
+and_regroup false q r s = refl
+
+pub below_both : (n : ℕ) (f g : ℕ → Bool) → every_below n (λ i. f i && g i) ≡ (every_below n f && every_below n g)
+below_both zero f g = refl
+below_both (suc n) f g = rw (below_both n f g) (and_regroup (every_below n f) (every_below n g) (f n) (g n))
 
 -- std's word for the same count
 pub count_is_count_by : {A : Type 0} (test : A → Bool) (l : List A) → count test l ≡ count_by test l

@@ -17,7 +17,6 @@ pub fn first() -> Number
     FIRST
 }
 
-/// No crate asks it, since `==` compares whole nodes: it is what the rule of R1.2 is shown by.
 pub fn is_same(n: Number, m: Number) -> bool
     ensures { result ≡ same n m }
 {

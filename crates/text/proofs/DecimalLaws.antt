@@ -1,14 +1,16 @@
--- Laws of numbers in decimal: the fewest digits that hold a number are its decimal, how many digits
--- that has, and that they say the number. Assumes nothing.
+-- Laws of numbers in decimal: what std prints for a number, and the fewest digits that hold it, are
+-- its decimal; how many digits that has, and that they say the number. Assumes nothing.
 use Prim.Native.Nat.{ℕ, zero, suc, ◌+◌, ◌-◌, ◌*◌, ◌/◌, ◌%◌, ◌^◌, ◌≤◌, ◌<◌}
 use mathlib.Core.Path.{◌≡◌, refl, sym, ap, ◌∙◌}
 use mathlib.Core.List.{List, [], ◌∷◌, ◌++◌}
 use native.Mathlib.Omega.{arith}
+use native.Mathlib.Nat.{one-le-pow, mod-eq_of_lt, mod-lt}
 use lib.ListN.{length, length-append}
 use lib.Dec.{ltb}
 use borrow.Author.Tests.{lt-ltb, le-ltb, ltb-true, ltb-false}
 use Rattle.std.specs.Fmt.{decimal as std_decimal}
 use Rattle.std.proofs.lemmas.Fmt.{decimal_step, decimal_digit}
+use Rattle.io.specs.Digits.{hex_digit_ascii, last_digits, IsDigitCount}
 use Rattle.predicates.proofs.Laws.{by_test}
 use Rattle.text.specs.Text.{digit, decimal_below, decimal}
 
@@ -33,6 +35,29 @@ printed_below (suc enough) n bound small =
 pub printed_decimal : (n : ℕ) → n < 2 ^ 64 → std_decimal n ≡ decimal n
 unfolding decimal
 printed_decimal n small = printed_below n n (omega arith) small
+
+-- ---- the fewest digits that hold a number are its decimal
+pub glyph_digit : (d : ℕ) → d < 10 → hex_digit_ascii d ≡ digit d
+glyph_digit d low = rw (lt-ltb d 10 low)
+
+fewest_below : (n k enough : ℕ) → n ≤ enough → n < 10 ^ suc k → (0 < k → 10 ^ k ≤ n) → last_digits 10 (suc k) n ≡ decimal_below (suc enough) n
+fewest_below n zero enough bound fits fewest =
+    ap (λ (d : ℕ). d ∷ []) (ap hex_digit_ascii (mod-eq_of_lt fits) ∙ glyph_digit n fits) ∙ sym (one-digit enough n fits)
+fewest_below n (suc k) zero bound fits fewest = absurd (omega (arith, fewest (omega arith), one-le-pow k 10 (omega arith)))
+fewest_below n (suc k) (suc enough) bound fits fewest =
+    let least : 10 ^ suc k ≤ n = fewest (omega arith) in
+    let tenth : last_digits 10 (suc k) (n / 10) ≡ decimal_below (suc enough) (n / 10) =
+    fewest_below (n / 10) k enough (omega arith) (omega arith) (λ _. omega arith) in
+    ap (λ (l : List ℕ). l ++ hex_digit_ascii (n % 10) ∷ []) tenth
+    ∙ ap (λ (d : ℕ). decimal_below (suc enough) (n / 10) ++ d ∷ []) (glyph_digit (n % 10) (mod-lt n (omega arith)))
+    ∙ sym (one-more-digit (suc enough) n (omega (arith, one-le-pow k 10 (omega arith))))
+
+pub fewest_decimal : (n k : ℕ) → IsDigitCount 10 1 n k → last_digits 10 k n ≡ decimal n
+unfolding decimal
+fewest_decimal n zero (some, fits, fewest) = absurd (omega arith)
+fewest_decimal n (suc k) (some, fits, fewest) =
+    let one_less : suc k - 1 ≡ k = omega arith in
+    fewest_below n k n (omega arith) fits (λ more. rw one_less at (fewest (omega arith)))
 
 -- ---- how many digits
 few-below : (enough w n : ℕ) → n < 10 ^ suc w → length (decimal_below enough n) ≤ suc w

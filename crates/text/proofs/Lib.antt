@@ -1,1 +1,4 @@
+pub mod Laws
+pub mod PageLaws
 pub mod DecimalLaws
+pub mod Spelling
