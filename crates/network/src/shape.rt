@@ -1,10 +1,11 @@
 //! Well-formedness of a network (docs/RULES.md, section 2), clause by clause.
-ghost use Rattle.std.specs.Prelude.{◌≡◌, ℕ, not, ◌<◌, ◌≤◌, eqb, get_or, length};
+ghost use Rattle.std.specs.Prelude.{◌≡◌, ℕ, not, ◌&&◌, ◌<◌, ◌≤◌, eqb, get_or, length};
 ghost use Rattle.predicates.specs.Tests.{count, every, every_below};
 ghost use Rattle.parts.specs.Shape.{message_fits};
+ghost use Rattle.node.specs.Shape.{node_fits};
 ghost use Rattle.protocol.specs.State.{is_exchange_of, exchanges, node_is_well_formed};
 ghost use Rattle.network.specs.Arrays.{is_vacant_node, is_vacant_message, well_formed};
-ghost use Rattle.network.specs.Walks.{party_by, node_with};
+ghost use Rattle.network.specs.Walks.{party_by, fits_beside, fits_with};
 
 use crate::{CAPACITY, Network, QUEUE_LIMIT, VACANT_MESSAGE};
 use node::Node;
@@ -32,6 +33,12 @@ fn are_vacant_messages(messages: &[Message]) -> bool
     ensures { result ≡ every is_vacant_message messages.now }
 {
     messages.iter().all(|message| *message == VACANT_MESSAGE)
+}
+
+fn nodes_fit(nodes: &[Node], declared: u8) -> bool
+    ensures { result ≡ every (node_fits declared) nodes.now }
+{
+    nodes.iter().all(|node| node.fits(declared))
 }
 
 fn messages_fit(messages: &[Message], declared: u8) -> bool
@@ -87,39 +94,50 @@ fn exchanges_allowed(status: Status) -> u8
 
 // A node among all, which has so many exchanges. Here and below the nodes and the messages are two
 // slices, and not the network: that would cut its arrays again for each node.
-fn node_is_well_formed(nodes: &[Node], exchanges: u8, number: usize) -> bool
-    requires { (number < length nodes.now) × (length nodes.now ≤ 32) }
-    ensures { result ≡ node_with nodes.now exchanges number }
+fn fits_among(nodes: &[Node], exchanges: u8, number: usize) -> bool
+    requires { number < length nodes.now }
+    ensures { result ≡ fits_with nodes.now exchanges number }
 {
     let node = nodes[number];
-    node.fits(nodes.len() as u8)
-        & (key_is_new(&nodes[..number], node.key) & (exchanges <= exchanges_allowed(node.status)))
+    key_is_new(&nodes[..number], node.key) & (exchanges <= exchanges_allowed(node.status))
 }
 
 // Not by `all`: what it ensures of a range did not lead to the definition.
-fn nodes_are_well_formed(nodes: &[Node], messages: &[Message]) -> bool
+fn all_fit_among(nodes: &[Node], messages: &[Message]) -> bool
     requires { (length nodes.now ≤ 32) × (length messages.now ≤ 64) }
-    ensures { result ≡ every_below (length nodes.now) (node_is_well_formed (record { nodes = nodes.now; messages = messages.now })) }
+    ensures { result ≡ every_below (length nodes.now) (fits_beside (record { nodes = nodes.now; messages = messages.now })) }
 {
     let exchanges = exchanges_of(messages);
     for number in 0..nodes.len() {
-        if !node_is_well_formed(nodes, exchanges[number], number) {
+        if !fits_among(nodes, exchanges[number], number) {
             return false;
         }
     }
     true
 }
 
+// What the nodes and the messages are by themselves, and only then what the nodes are among the others.
+fn lists_are_well_formed(nodes: &[Node], messages: &[Message]) -> bool
+    requires { (length nodes.now ≤ 32) × (length messages.now ≤ 64) }
+    ensures { result ≡ (every_below (length nodes.now) (node_is_well_formed (record { nodes = nodes.now; messages = messages.now }))
+        && every (message_fits (length nodes.now)) messages.now) }
+{
+    let declared = nodes.len() as u8;
+    (nodes_fit(nodes, declared) & messages_fit(messages, declared))
+        && all_fit_among(nodes, messages)
+}
+
 impl Network {
     pub fn is_well_formed(&self) -> bool
         ensures { result ≡ well_formed self.now }
     {
+        if !((self.count <= CAPACITY) & (self.waiting <= QUEUE_LIMIT)) {
+            return false;
+        }
         let nodes = self.declared();
         let messages = self.queue();
-        ((self.count <= CAPACITY) & (self.waiting <= QUEUE_LIMIT))
-            && ((are_vacant_nodes(&self.nodes[nodes.len()..])
-                & are_vacant_messages(&self.messages[messages.len()..]))
-                & (nodes_are_well_formed(nodes, messages)
-                    & messages_fit(messages, nodes.len() as u8)))
+        (are_vacant_nodes(&self.nodes[nodes.len()..])
+            & are_vacant_messages(&self.messages[messages.len()..]))
+            && lists_are_well_formed(nodes, messages)
     }
 }
